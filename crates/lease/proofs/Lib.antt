@@ -1,1 +1,4 @@
--- Lemmas of the crate.
+pub mod Options
+pub mod Places
+pub mod Choosing
+pub mod Tidy

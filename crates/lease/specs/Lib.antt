@@ -1,2 +1,9 @@
 pub mod Fault
 pub mod Settings
+pub mod Table
+pub mod Choosing
+pub mod Holding
+pub mod World
+pub mod Run
+pub mod Premise
+pub mod Promise
