@@ -4,6 +4,8 @@ pub mod Table
 pub mod Choosing
 pub mod Holding
 pub mod World
+pub mod Of
 pub mod Run
+pub mod Stands
 pub mod Premise
 pub mod Promise

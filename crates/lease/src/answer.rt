@@ -9,3 +9,10 @@ pub enum Answer {
     Granted(Grant),
     Refused(Fault),
 }
+
+// What a server finds when it reads its lease table at a restart.
+#[derive(Clone, Copy)]
+pub enum Found {
+    Table,
+    Nothing,
+}

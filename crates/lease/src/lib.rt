@@ -2,14 +2,24 @@
 mod answer;
 mod clock;
 mod fault;
+mod holder;
+mod holding;
+mod keeper;
+mod keeper_steps;
 mod lease;
 mod message;
 mod settings;
 mod table;
 
 pub use answer::Answer;
+pub use answer::Found;
 pub use clock::Clock;
 pub use fault::Fault;
+pub use holder::Holder;
+pub use holding::Holding;
+pub use holding::Use;
+pub use holding::Wait;
+pub use keeper::Keeper;
 pub use lease::Lease;
 pub use message::Grant;
 pub use message::Request;

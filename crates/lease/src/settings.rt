@@ -3,7 +3,7 @@ ghost use mathlib.Core.Bool.{true, false};
 ghost use Prim.Native.Nat.{_*_, _<_, _≤_};
 ghost use Rattle.std.specs.Results.{Cases};
 ghost use Rattle.lease.specs.declared.fault.Fault.the-variants.{BadSettings};
-ghost use Rattle.lease.specs.Settings.{valid};
+ghost use Rattle.lease.specs.Settings.{valid, life as lives, outlasts, silence as silences};
 use crate::fault::Fault;
 
 const MOST_ADDRESSES: u16 = 1024;
@@ -74,5 +74,27 @@ impl Settings {
         ensures { λ r. ⌜ r ≡ self .skew ⌝ }
     {
         self.skew
+    }
+
+    // How long a lease lives by the server's clock: it outlasts a term by a client's.
+    pub fn life(self) -> u32
+        ensures { λ r. ⌜ r ≡ lives (record { addresses = self .addresses; term = self .term; skew = self .skew }) ⌝ }
+    {
+        self.outlasting(self.term)
+    }
+
+    // How long a server that lost its table lends nothing.
+    pub fn silence(self) -> u32
+        ensures { λ r. ⌜ r ≡ silences (record { addresses = self .addresses; term = self .term; skew = self .skew }) ⌝ }
+    {
+        self.outlasting(self.life())
+    }
+
+    // What one clock may count while another counts `ticks`.
+    fn outlasting(self, ticks: u32) -> u32
+        requires { ⌜ ticks ≤ 100000 ⌝ }
+        ensures { λ r. ⌜ r ≡ outlasts (record { addresses = self .addresses; term = self .term; skew = self .skew }) ticks ⌝ }
+    {
+        ticks + u32::from(self.skew)
     }
 }

@@ -1,0 +1,92 @@
+ghost use mathlib.Core.Path.{_≡_};
+ghost use Rattle.std.specs.Vec.{made};
+ghost use Rattle.lease.specs.World.{start};
+ghost use Rattle.lease.specs.Run.{answer, serves, crashes, restarts};
+ghost use Rattle.lease.specs.Of.{settingsOf};
+ghost use Rattle.lease.specs.Stands.{serverOf, isLost, KeeperPassed};
+use crate::answer::Answer;
+use crate::answer::Found;
+use crate::clock::Clock;
+use crate::fault::Fault;
+use crate::keeper::Keeper;
+use crate::message::Grant;
+use crate::message::Request;
+use crate::settings::Settings;
+use crate::table::Table;
+use std::alloc::AllocError;
+use std::alloc::Global;
+
+impl Keeper {
+    // Up, with an empty table and the clock at 0.
+    pub fn new(heap: Global, settings: Settings) -> Result<Keeper, AllocError>
+        ensures { λ r. ⌜ made r (λ k. (serverOf k ≡ start .server) × (k .settings ≡ settings)) ⌝ }
+    {
+        let table = Table::new(heap, settings)?;
+        Ok(Keeper { settings, clock: Clock::zero(), up: true, silent: None, table })
+    }
+
+    pub fn clock(&self) -> Clock
+        ensures { λ r. ⌜ r ≡ now (self .entry) .clock ⌝ }
+    {
+        self.clock
+    }
+
+    // Time passes, also while it is down; a silence ends only while it is up.
+    pub fn pass(&mut self, ticks: u64) -> Result<(), Fault>
+        ensures step { λ r. ⌜ KeeperPassed r ticks (now (self .entry)) (now (self .exit)) ⌝ }
+        ensures settings { λ _. ⌜ now (self .exit) .settings ≡ now (self .entry) .settings ⌝ }
+    {
+        let clock = self.clock.after(ticks)?;
+        self.clock = clock;
+        if let Some(until) = self.silent {
+            if self.up && until < clock.ticks {
+                self.silent = None;
+                self.table.clear();
+            }
+        }
+        Ok(())
+    }
+
+    // A request comes.
+    pub fn request(&mut self, request: Request) -> Answer
+        ensures value { λ r. ⌜ r ≡ answer (settingsOf (now (self .entry) .settings)) (serverOf (now (self .entry))) request ⌝ }
+        ensures step { λ r. ⌜ serverOf (now (self .exit)) ≡ serves (settingsOf (now (self .entry) .settings)) r (serverOf (now (self .entry))) ⌝ }
+        ensures settings { λ _. ⌜ now (self .exit) .settings ≡ now (self .entry) .settings ⌝ }
+    {
+        if !self.up {
+            return Answer::Unheard;
+        }
+        let None = self.silent else {
+            return Answer::Refused(Fault::TableLost);
+        };
+        match self.table.grant(self.clock, self.settings.life(), request) {
+            Ok(lease) => Answer::Granted(Grant { client: request.client, nonce: request.nonce, address: lease.address }),
+            Err(fault) => Answer::Refused(fault),
+        }
+    }
+
+    // Down: what was written stays.
+    pub fn crash(&mut self)
+        ensures step { λ _. ⌜ serverOf (now (self .exit)) ≡ crashes (serverOf (now (self .entry))) ⌝ }
+        ensures settings { λ _. ⌜ now (self .exit) .settings ≡ now (self .entry) .settings ⌝ }
+    {
+        self.up = false;
+    }
+
+    // Up again, with a clock that may show anything. A table that is lost stays so while the silence lasts, and each restart begins it anew.
+    pub fn restart(&mut self, clock: Clock, found: Found)
+        ensures step { λ _. ⌜ serverOf (now (self .exit)) ≡ restarts (settingsOf (now (self .entry) .settings)) (clock .ticks) (isLost found) (serverOf (now (self .entry))) ⌝ }
+        ensures settings { λ _. ⌜ now (self .exit) .settings ≡ now (self .entry) .settings ⌝ }
+    {
+        self.clock = clock;
+        self.up = true;
+        let lost = match found {
+            Found::Table => self.silent.is_some(),
+            Found::Nothing => true,
+        };
+        if lost {
+            self.silent = Some(clock.ticks + u64::from(self.settings.silence()));
+            self.table.clear();
+        }
+    }
+}
