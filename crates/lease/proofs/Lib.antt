@@ -2,3 +2,12 @@ pub mod Options
 pub mod Places
 pub mod Choosing
 pub mod Tidy
+pub mod Claims
+pub mod Sound
+pub mod Answers
+pub mod ServerSteps
+pub mod ClientSteps
+pub mod Passing
+pub mod History
+pub mod Keeping
+pub mod Promise
