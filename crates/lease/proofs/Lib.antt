@@ -11,3 +11,6 @@ pub mod Passing
 pub mod History
 pub mod Keeping
 pub mod Promise
+pub mod Cases
+pub mod Drift
+pub mod Witness

@@ -9,3 +9,6 @@ pub mod Run
 pub mod Stands
 pub mod Premise
 pub mod Promise
+pub mod Cases
+pub mod Drift
+pub mod Witness
