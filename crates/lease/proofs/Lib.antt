@@ -14,3 +14,4 @@ pub mod Promise
 pub mod Cases
 pub mod Drift
 pub mod Witness
+pub mod Fulfils

@@ -24,8 +24,8 @@ table-past xs a h = getD-past xs a None h
 pub set-at : {A : Type 0} (ys : List A) (i : ℕ) (y d : A) (k : ℕ) → i < length ys → getD (set ys i y) k d ≡ at i y (λ j. getD ys j d) k
 set-at ys i y d k h =
     elim (cases-eq k i) [
-      inl e ↦ ap (λ (n : ℕ). getD (set ys i y) n d) e ∙ getD-set-same ys i y d h ∙ sym (cond-true (eqb k i) y (getD ys k d) (eq-eqb k i e))
-    | inr n ↦ getD-set-other ys i k y d n ∙ sym (cond-false (eqb k i) y (getD ys k d) (ne-eqb k i n))
+      | inl e ↦ ap (λ (n : ℕ). getD (set ys i y) n d) e ∙ getD-set-same ys i y d h ∙ sym (cond-true (eqb k i) y (getD ys k d) (eq-eqb k i e))
+      | inr n ↦ getD-set-other ys i k y d n ∙ sym (cond-false (eqb k i) y (getD ys k d) (ne-eqb k i n))
     ]
 
 pub table-set : (xs : List (Option Lease)) (l : Lease) → l .address < length xs → tableOf (set xs (l .address) (Some l)) ≡ written l (tableOf xs)

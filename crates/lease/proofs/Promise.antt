@@ -70,10 +70,10 @@ takes : (s : Settings) (c : ℕ) (g : Grant) (x : Client) (t : ℕ) → x .up �
 takes s c g x t up own e l =
     ap (λ (z : Result Client Fault). settled x z .holding) (cond-true (x .up) _ _ up)
     ∙ ap (λ (z : Result Holding Fault). settled x (heldBy x z) .holding) (
-      cond-true (eqb (g .client) c) _ _ (eq-eqb _ _ own)
-      ∙ ap (λ (o : Option Wait). takingFor (s .term) (x .clock) g o) e
-      ∙ cond-true (eqb (g .nonce) (g .nonce)) _ _ (eq-eqb _ _ refl)
-      ∙ cond-true (leb (x .clock) (t + s .term)) _ _ (le-leb _ _ l))
+    cond-true (eqb (g .client) c) _ _ (eq-eqb _ _ own)
+    ∙ ap (λ (o : Option Wait). takingFor (s .term) (x .clock) g o) e
+    ∙ cond-true (eqb (g .nonce) (g .nonce)) _ _ (eq-eqb _ _ refl)
+    ∙ cond-true (leb (x .clock) (t + s .term)) _ _ (le-leb _ _ l))
 
 -- who asks, is heard, and hears the grant
 two-messages : (s : Settings) (w : World) (c p q : ℕ) → lending (w .server) ≡ true → w .clients c .up ≡ true →

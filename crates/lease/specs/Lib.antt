@@ -7,6 +7,7 @@ pub mod World
 pub mod Of
 pub mod Run
 pub mod Stands
+pub mod Code
 pub mod Premise
 pub mod Promise
 pub mod Cases

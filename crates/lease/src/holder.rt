@@ -1,10 +1,7 @@
 ghost use mathlib.Core.Path.{_≡_};
-ghost use mathlib.Core.Bool.{true, false, cond};
-ghost use Rattle.std.specs.declared.option.Option.the-variants.{Some, None};
+ghost use mathlib.Core.Bool.{false};
 ghost use Rattle.lease.specs.World.{knowing-nothing};
-ghost use Rattle.lease.specs.Run.{asked as askedBy, hearing};
-ghost use Rattle.lease.specs.Of.{mapOk};
-ghost use Rattle.lease.specs.Stands.{clientOf, HolderPassed};
+ghost use Rattle.lease.specs.Stands.{clientOf, HolderStarted, HolderCrashed, HolderPassed, HolderAsked, HolderHeard};
 use crate::clock::Clock;
 use crate::fault::Fault;
 use crate::holding::Holding;
@@ -24,14 +21,22 @@ impl Holder {
     pub fn off() -> Holder
         ensures { λ r. ⌜ clientOf r ≡ knowing-nothing 0 false ⌝ }
     {
-        Holder { clock: Clock::zero(), up: false, holding: Holding::Nothing }
+        Holder {
+            clock: Clock::zero(),
+            up: false,
+            holding: Holding::Nothing,
+        }
     }
 
     // Switched on, with any clock, knowing nothing.
     pub fn start(clock: Clock) -> Holder
-        ensures { λ r. ⌜ clientOf r ≡ knowing-nothing (clock .ticks) true ⌝ }
+        ensures { λ r. ⌜ HolderStarted (clock .ticks) r ⌝ }
     {
-        Holder { clock, up: true, holding: Holding::Nothing }
+        Holder {
+            clock,
+            up: true,
+            holding: Holding::Nothing,
+        }
     }
 
     pub fn holding(self) -> Holding
@@ -41,9 +46,13 @@ impl Holder {
     }
 
     pub fn crash(self) -> Holder
-        ensures { λ r. ⌜ clientOf r ≡ knowing-nothing (self .clock .ticks) false ⌝ }
+        ensures { λ r. ⌜ HolderCrashed self r ⌝ }
     {
-        Holder { clock: self.clock, up: false, holding: self.holding.crash() }
+        Holder {
+            clock: self.clock,
+            up: false,
+            holding: self.holding.crash(),
+        }
     }
 
     // Time passes; while it is down its clock stands.
@@ -54,29 +63,47 @@ impl Holder {
             return Ok(self);
         }
         let clock = self.clock.after(ticks)?;
-        Ok(Holder { clock, up: true, holding: self.holding.tick(clock) })
+        Ok(Holder {
+            clock,
+            up: true,
+            holding: self.holding.tick(clock),
+        })
     }
 
     // It asks with a fresh nonce, and says what it sends.
     pub fn ask(self, own: u32, nonce: u64, preferred: u16) -> (Holder, Option<Request>)
-        ensures step { λ r. ⌜ clientOf (r .0) ≡ cond (self .up) (askedBy nonce (clientOf self)) (clientOf self) ⌝ }
-        ensures sends { λ r. ⌜ r .1 ≡ cond (self .up) (Some (record { client = own; nonce = nonce; preferred = preferred })) None ⌝ }
+        ensures { λ r. ⌜ HolderAsked own nonce preferred self (r .0) (r .1) ⌝ }
     {
         if !self.up {
             return (self, None);
         }
         let holding = self.holding.ask(nonce, self.clock);
-        (Holder { clock: self.clock, up: true, holding }, Some(Request { client: own, nonce, preferred }))
+        (
+            Holder {
+                clock: self.clock,
+                up: true,
+                holding,
+            },
+            Some(Request {
+                client: own,
+                nonce,
+                preferred,
+            }),
+        )
     }
 
     // A grant comes; while it is down it hears nothing.
     pub fn hear(self, term: u32, own: u32, grant: Grant) -> Result<Holder, Fault>
-        ensures { λ r. ⌜ mapOk clientOf r ≡ hearing term own grant (clientOf self) ⌝ }
+        ensures { λ r. ⌜ HolderHeard term own grant r self ⌝ }
     {
         if !self.up {
             return Ok(self);
         }
         let holding = self.holding.take(term, self.clock, own, grant)?;
-        Ok(Holder { clock: self.clock, up: true, holding })
+        Ok(Holder {
+            clock: self.clock,
+            up: true,
+            holding,
+        })
     }
 }

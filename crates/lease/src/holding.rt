@@ -58,7 +58,10 @@ impl Holding {
     pub fn ask(self, nonce: u64, clock: Clock) -> Holding
         ensures { λ r. ⌜ holdingOf r ≡ asking nonce (clock .ticks) (holdingOf self) ⌝ }
     {
-        let wait = Wait { nonce, asked: clock };
+        let wait = Wait {
+            nonce,
+            asked: clock,
+        };
         match self.in_use() {
             None => Holding::Waiting(wait),
             Some(using) => Holding::UsingAndWaiting(using, wait),
@@ -82,7 +85,10 @@ impl Holding {
         if clock.ticks > until {
             return Err(Fault::TooLate);
         }
-        Ok(Holding::Using(Use { address: grant.address, until }))
+        Ok(Holding::Using(Use {
+            address: grant.address,
+            until,
+        }))
     }
 
     // The clock shows `clock` now: an address whose time is over is used no more.

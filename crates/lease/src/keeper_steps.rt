@@ -1,9 +1,7 @@
 ghost use mathlib.Core.Path.{_≡_};
 ghost use Rattle.std.specs.Vec.{made};
-ghost use Rattle.lease.specs.World.{start};
-ghost use Rattle.lease.specs.Run.{answer, serves, crashes, restarts};
 ghost use Rattle.lease.specs.Of.{settingsOf};
-ghost use Rattle.lease.specs.Stands.{serverOf, isLost, KeeperPassed};
+ghost use Rattle.lease.specs.Stands.{isLost, KeeperMade, KeeperPassed, KeeperAnswered, KeeperCrashed, KeeperRestarted};
 use crate::answer::Answer;
 use crate::answer::Found;
 use crate::clock::Clock;
@@ -19,10 +17,16 @@ use std::alloc::Global;
 impl Keeper {
     // Up, with an empty table and the clock at 0.
     pub fn new(heap: Global, settings: Settings) -> Result<Keeper, AllocError>
-        ensures { λ r. ⌜ made r (λ k. (serverOf k ≡ start .server) × (k .settings ≡ settings)) ⌝ }
+        ensures { λ r. ⌜ made r (λ k. KeeperMade (settingsOf settings) k) ⌝ }
     {
         let table = Table::new(heap, settings)?;
-        Ok(Keeper { settings, clock: Clock::zero(), up: true, silent: None, table })
+        Ok(Keeper {
+            settings,
+            clock: Clock::zero(),
+            up: true,
+            silent: None,
+            table,
+        })
     }
 
     pub fn clock(&self) -> Clock
@@ -33,8 +37,7 @@ impl Keeper {
 
     // Time passes, also while it is down; a silence ends only while it is up.
     pub fn pass(&mut self, ticks: u64) -> Result<(), Fault>
-        ensures step { λ r. ⌜ KeeperPassed r ticks (now (self .entry)) (now (self .exit)) ⌝ }
-        ensures settings { λ _. ⌜ now (self .exit) .settings ≡ now (self .entry) .settings ⌝ }
+        ensures { λ r. ⌜ KeeperPassed r ticks (now (self .entry)) (now (self .exit)) ⌝ }
     {
         let clock = self.clock.after(ticks)?;
         self.clock = clock;
@@ -49,9 +52,7 @@ impl Keeper {
 
     // A request comes.
     pub fn request(&mut self, request: Request) -> Answer
-        ensures value { λ r. ⌜ r ≡ answer (settingsOf (now (self .entry) .settings)) (serverOf (now (self .entry))) request ⌝ }
-        ensures step { λ r. ⌜ serverOf (now (self .exit)) ≡ serves (settingsOf (now (self .entry) .settings)) r (serverOf (now (self .entry))) ⌝ }
-        ensures settings { λ _. ⌜ now (self .exit) .settings ≡ now (self .entry) .settings ⌝ }
+        ensures { λ r. ⌜ KeeperAnswered request r (now (self .entry)) (now (self .exit)) ⌝ }
     {
         if !self.up {
             return Answer::Unheard;
@@ -60,23 +61,25 @@ impl Keeper {
             return Answer::Refused(Fault::TableLost);
         };
         match self.table.grant(self.clock, self.settings.life(), request) {
-            Ok(lease) => Answer::Granted(Grant { client: request.client, nonce: request.nonce, address: lease.address }),
+            Ok(lease) => Answer::Granted(Grant {
+                client: request.client,
+                nonce: request.nonce,
+                address: lease.address,
+            }),
             Err(fault) => Answer::Refused(fault),
         }
     }
 
     // Down: what was written stays.
     pub fn crash(&mut self)
-        ensures step { λ _. ⌜ serverOf (now (self .exit)) ≡ crashes (serverOf (now (self .entry))) ⌝ }
-        ensures settings { λ _. ⌜ now (self .exit) .settings ≡ now (self .entry) .settings ⌝ }
+        ensures { λ _. ⌜ KeeperCrashed (now (self .entry)) (now (self .exit)) ⌝ }
     {
         self.up = false;
     }
 
     // Up again, with a clock that may show anything. A table that is lost stays so while the silence lasts, and each restart begins it anew.
     pub fn restart(&mut self, clock: Clock, found: Found)
-        ensures step { λ _. ⌜ serverOf (now (self .exit)) ≡ restarts (settingsOf (now (self .entry) .settings)) (clock .ticks) (isLost found) (serverOf (now (self .entry))) ⌝ }
-        ensures settings { λ _. ⌜ now (self .exit) .settings ≡ now (self .entry) .settings ⌝ }
+        ensures { λ _. ⌜ KeeperRestarted (clock .ticks) (isLost found) (now (self .entry)) (now (self .exit)) ⌝ }
     {
         self.clock = clock;
         self.up = true;

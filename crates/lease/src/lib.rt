@@ -30,6 +30,7 @@ pub use table::Table;
 pub use theorems::can_have;
 pub use theorems::cases_hold;
 pub use theorems::closely_is_enough;
+pub use theorems::implements;
 pub use theorems::in_table;
 pub use theorems::keeps;
 pub use theorems::little_drift;

@@ -137,7 +137,11 @@ impl Table {
         let Some(address) = self.choose(clock, request) else {
             return Err(Fault::NoneFree);
         };
-        let lease = Lease { address, client: request.client, expires: clock.ticks + u64::from(life) };
+        let lease = Lease {
+            address,
+            client: request.client,
+            expires: clock.ticks + u64::from(life),
+        };
         self.restore(lease);
         Ok(lease)
     }

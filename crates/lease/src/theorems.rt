@@ -3,6 +3,7 @@ ghost use Rattle.lease.specs.Promise.{NeverTwo, CanHave, Keeps, InTable, OneLe
 ghost use Rattle.lease.specs.Premise.{CloselyIsEnough};
 ghost use Rattle.lease.specs.Drift.{LittleDrift};
 ghost use Rattle.lease.specs.Cases.{CasesHold};
+ghost use Rattle.lease.specs.Code.{ServerImplements, ClientImplements};
 ghost use Rattle.lease.specs.Witness.{LentOn, LastTick, LentAnew, Renewed};
 
 // No two clients ever use one address: through crashes, requests heard and not answered, lost tables and the silence after.
@@ -67,6 +68,14 @@ pub fn witnesses() -> u8
     ensures last_tick { λ _. ⌜ LastTick ⌝ }
     ensures lent_anew { λ _. ⌜ LentAnew ⌝ }
     ensures renewed { λ _. ⌜ Renewed ⌝ }
+{
+    0
+}
+
+// Every step of the code is the model's: made of the very definitions that the contracts of its functions cite.
+pub fn implements() -> u8
+    ensures server { λ _. ⌜ ServerImplements ⌝ }
+    ensures client { λ _. ⌜ ClientImplements ⌝ }
 {
     0
 }

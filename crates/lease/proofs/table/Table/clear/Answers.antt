@@ -23,8 +23,8 @@ pub returns : need.returns
 returns c =
     record {
       table = fun-ext (λ a. elim (cases-lt a (c .loop-a .a)) [
-        inl h ↦ c .loop-a .inv .0 a h
-      | inr h ↦ table-past (vec-items (c .loop-a .self .leases)) a (omega (arith, c .loop-a .self .leases .ok .0))
+        | inl h ↦ c .loop-a .inv .0 a h
+        | inr h ↦ table-past (vec-items (c .loop-a .self .leases)) a (omega (arith, c .loop-a .self .leases .ok .0))
       ]);
       addresses = c .loop-a .inv .1;
     }

@@ -12,7 +12,7 @@ pub returns : need.returns
 returns c =
     let t : Table = tableOf (vec-items (c .args .self .now .leases)) in
     let e : tableOf (vec-items (c .restore .last .self .leases)) ≡ written (leased (c .args .clock .ticks) (c .from .result) (c .args .request .client) (c .in-Some .address)) t
-        = c .restore .ensures .table ∙ cond-true _ _ _ (lt-ltb _ _ (c .in-Some .ensures tt .laws .below (c .in-Some .address) refl)) in
+    = c .restore .ensures .table ∙ cond-true _ _ _ (lt-ltb _ _ (c .in-Some .ensures tt .laws .below (c .in-Some .address) refl)) in
     record {
       value = search needs;
       table = e;
