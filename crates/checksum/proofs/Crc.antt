@@ -9,25 +9,57 @@ use native.Mathlib.Omega.{arith}
 use lib.Bits.{bitXor, shifted-half, shifted-even, xor-shr, xor-mod, xor-assoc, xor-shifted, xor-zero-r, xor-comm, xor-self}
 use lib.Dec.{eqb}
 use Rattle.std.proofs.shelf.Bits.{div-add-mod', mod-below}
-use Rattle.std.proofs.shelf.Tests.{cond-both}
+use Rattle.std.proofs.shelf.Tests.{cond-both, cond-true, cond-false}
 use Rattle.checksum.specs.Crc.{polynomial, all-ones, bit, bits, step, run, crc, continued, Check-value, Zeros-do-not-fit}
 
--- whole bits above the k lowest come down by k, past whatever these do
-bit-above : (y k z : ℕ) → bit (bitXor (y * 2 ^ suc k) z) ≡ bitXor (y * 2 ^ k) (bit z)
-unfolding bit
-bit-above y k z =
-    let low : bitXor (y * 2 ^ suc k) z % 2 ≡ z % 2 = xor-mod (y * 2 ^ suc k) z 1 ∙ ap (λ (n : ℕ). bitXor n (z % 2)) (shifted-even y k) in
-    let high : bitXor (y * 2 ^ suc k) z / 2 ≡ bitXor (y * 2 ^ k) (z / 2) = xor-shr (y * 2 ^ suc k) z 1 ∙ ap (λ (n : ℕ). bitXor n (z / 2)) (shifted-half y k) in
-    ap₂ (λ (p q : ℕ). cond (eqb q 1) (bitXor p polynomial) p) high low
-    ∙ cond-both (eqb (z % 2) 1) (bitXor (z / 2) polynomial) (z / 2)
-    (λ q. cond (eqb (z % 2) 1) (bitXor (bitXor (y * 2 ^ k) (z / 2)) polynomial) (bitXor (y * 2 ^ k) (z / 2)) ≡ bitXor (y * 2 ^ k) q)
-    (λ e. ap (λ b. cond b (bitXor (bitXor (y * 2 ^ k) (z / 2)) polynomial) (bitXor (y * 2 ^ k) (z / 2))) e ∙ xor-assoc (y * 2 ^ k) (z / 2) polynomial)
-    (λ e. ap (λ b. cond b (bitXor (bitXor (y * 2 ^ k) (z / 2)) polynomial) (bitXor (y * 2 ^ k) (z / 2))) e)
+-- the polynomial, where a bit of this value fell out
+fallen : ℕ → ℕ
+fallen b = cond (eqb b 1) polynomial 0
+
+bit-is : (s : ℕ) → bit s ≡ bitXor (s / 2) (fallen (s % 2))
+unfolding bit fallen
+bit-is s =
+    cond-both (eqb (s % 2) 1) polynomial 0 (λ q. bit s ≡ bitXor (s / 2) q)
+    (λ e. cond-true (eqb (s % 2) 1) (bitXor (s / 2) polynomial) (s / 2) e)
+    (λ e. cond-false (eqb (s % 2) 1) (bitXor (s / 2) polynomial) (s / 2) e ∙ sym (xor-zero-r (s / 2)))
+
+fallen-xor : (p q : ℕ) → p < 2 → q < 2 → fallen (bitXor p q) ≡ bitXor (fallen p) (fallen q)
+unfolding fallen
+fallen-xor zero q hp hq = refl
+fallen-xor (suc zero) zero hp hq = refl
+fallen-xor (suc zero) (suc zero) hp hq = refl
+fallen-xor (suc zero) (suc (suc q)) hp hq = absurd (omega arith)
+fallen-xor (suc (suc p)) q hp hq = absurd (omega arith)
+
+pub xor-pairs : (a b c d : ℕ) → bitXor (bitXor a b) (bitXor c d) ≡ bitXor (bitXor a c) (bitXor b d)
+xor-pairs a b c d =
+    xor-assoc a b (bitXor c d)
+    ∙ ap (bitXor a) (sym (xor-assoc b c d) ∙ ap (λ (n : ℕ). bitXor n d) (xor-comm b c) ∙ xor-assoc c b d)
+    ∙ sym (xor-assoc a c (bitXor b d))
+
+bit-xor : (a b : ℕ) → bit (bitXor a b) ≡ bitXor (bit a) (bit b)
+bit-xor a b =
+    bit-is (bitXor a b)
+    ∙ ap₂ bitXor (xor-shr a b 1) (ap fallen (xor-mod a b 1) ∙ fallen-xor (a % 2) (b % 2) (mod-below a 2 (omega arith)) (mod-below b 2 (omega arith)))
+    ∙ xor-pairs (a / 2) (b / 2) (fallen (a % 2)) (fallen (b % 2))
+    ∙ sym (ap₂ bitXor (bit-is a) (bit-is b))
+
+pub bits-xor : (k a b : ℕ) → bits k (bitXor a b) ≡ bitXor (bits k a) (bits k b)
+unfolding bits
+bits-xor zero a b = refl
+bits-xor (suc k) a b = ap (bits k) (bit-xor a b) ∙ bits-xor k (bit a) (bit b)
+
+bit-shifted : (y k : ℕ) → bit (y * 2 ^ suc k) ≡ y * 2 ^ k
+unfolding fallen
+bit-shifted y k = bit-is (y * 2 ^ suc k) ∙ ap₂ (λ (p q : ℕ). bitXor p (fallen q)) (shifted-half y k) (shifted-even y k) ∙ xor-zero-r (y * 2 ^ k)
+
+pub bits-shifted : (k y : ℕ) → bits k (y * 2 ^ k) ≡ y
+unfolding bits
+bits-shifted zero y = mul-one y
+bits-shifted (suc k) y = ap (bits k) (bit-shifted y k) ∙ bits-shifted k y
 
 pub bits-above : (k y z : ℕ) → bits k (bitXor (y * 2 ^ k) z) ≡ bitXor y (bits k z)
-unfolding bits
-bits-above zero y z = ap (λ (n : ℕ). bitXor n z) (mul-one y)
-bits-above (suc k) y z = ap (bits k) (bit-above y k z) ∙ bits-above k y (bit z)
+bits-above k y z = bits-xor k (y * 2 ^ k) z ∙ ap (λ (n : ℕ). bitXor n (bits k z)) (bits-shifted k y)
 
 split : (x : ℕ) → bitXor (x / 256 * 2 ^ 8) (x % 256) ≡ x
 split x = xor-shifted (x / 256) 8 (x % 256) (mod-below x 256 (omega arith)) ∙ div-add-mod' x 256
@@ -50,19 +82,19 @@ pub run-push : (s : ℕ) (bs : List ℕ) (b : ℕ) → run s (bs ++ (b ∷ [])) 
 unfolding run
 run-push s bs b = run-append s bs (b ∷ [])
 
-twice : (x : ℕ) → bitXor (bitXor x all-ones) all-ones ≡ x
-twice x = xor-assoc x all-ones all-ones ∙ xor-zero-r x
+pub xor-back : (x y : ℕ) → bitXor (bitXor x y) y ≡ x
+xor-back x y = xor-assoc x y y ∙ ap (bitXor x) (xor-self y) ∙ xor-zero-r x
 
 pub crc-append : (xs ys : List ℕ) → continued (crc xs) ys ≡ crc (xs ++ ys)
 unfolding continued crc
 crc-append xs ys =
-    ap (λ (n : ℕ). bitXor (run n ys) all-ones) (twice (run all-ones xs))
+    ap (λ (n : ℕ). bitXor (run n ys) all-ones) (xor-back (run all-ones xs) all-ones)
     ∙ ap (λ (n : ℕ). bitXor n all-ones) (sym (run-append all-ones xs ys))
 
 pub check-value : Check-value
-unfolding bit bits step run crc
+unfolding Check-value bit bits step run crc
 check-value = refl
 
 pub zeros-do-not-fit : Zeros-do-not-fit
-unfolding bit bits step run crc
+unfolding Zeros-do-not-fit bit bits step run crc
 zeros-do-not-fit e = let clash : _≡_ {A = ℕ} 0x84FBECEE 0 = e in omega arith

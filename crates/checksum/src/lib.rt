@@ -4,6 +4,7 @@ ghost use mathlib.Core.List.{List, _++_};
 ghost use Prim.Native.Nat.{ℕ};
 ghost use Rattle.checksum.specs.Crc.{crc, step as stepped, continued};
 ghost use Rattle.checksum.specs.Crc.{Check-value, Zeros-do-not-fit};
+ghost use Rattle.checksum.specs.Burst.{Has-32-bits, Detects-bursts, Detects-changed-bytes};
 
 mod table;
 
@@ -30,16 +31,20 @@ pub fn crc32c_append(sum: u32, bytes: &[u8]) -> u32
     state ^ ALL_ONES
 }
 
+// The sum of a whole message.
 pub fn crc32c(bytes: &[u8]) -> u32
     ensures value { λ r. ⌜ r ≡ crc (now (bytes .entry)) ⌝ }
+    ensures word { λ _. ⌜ Has-32-bits ⌝ }
+    ensures bursts { λ _. ⌜ Detects-bursts ⌝ }
+    ensures bytes { λ _. ⌜ Detects-changed-bytes ⌝ }
+    ensures zeros { λ _. ⌜ Zeros-do-not-fit ⌝ }
 {
     crc32c_append(0, bytes)
 }
 
-// The sum of "123456789".
+// The sum of "123456789", by which an implementation is told to be CRC-32C.
 pub fn check_value() -> u32
     ensures published { λ _. ⌜ Check-value ⌝ }
-    ensures zeros { λ _. ⌜ Zeros-do-not-fit ⌝ }
     ensures value { λ r. ⌜ r ≡ 0xE3069283 ⌝ }
 {
     crc32c(b"123456789")

@@ -5,7 +5,7 @@ use native.Mathlib.Omega.{arith}
 use lib.Bits.{bitXor}
 use lib.ListN.{length, getD, take}
 use Rattle.std.proofs.shelf.Lists.{take-more, take-all}
-use Rattle.checksum.specs.Crc.{all-ones, run, step, crc, continued}
+use Rattle.checksum.specs.Crc.{all-ones, run, step, continued}
 use Rattle.checksum.proofs.Crc.{run-push, crc-append}
 use Rattle.checksum.proofs.crc32c_append.Needs as need
 
