@@ -78,7 +78,5 @@ fn main() {
         sums ^= records(&bytes);
         records_best = records_best.min(start.elapsed().as_micros());
     }
-    println!("sums {sums:08x}");
-    println!("whole {whole_best}");
-    println!("records {records_best}");
+    println!("sums {sums:08x} whole {whole_best} records {records_best}");
 }

@@ -11,13 +11,12 @@ for turn in 1 2 3; do
   target/bin/checksum_bench time | sed 's/^/proved /'
   target/bench/checksum | sed 's/^/twin /'
 done | awk '
-  $2 == "sums" { sum[$1] = $3; next }
-  !(($1, $2) in best) || $3 < best[$1, $2] { best[$1, $2] = $3 }
+  { sums[$1] = $3; for (i = 4; i < NF; i += 2) if (!(($1, $i) in best) || $(i + 1) < best[$1, $i]) best[$1, $i] = $(i + 1) }
+  function line(kind, mebibytes) {
+    printf "%-8s proved %7.1f MB/s  twin %7.1f MB/s  ratio %.2f\n", kind, mebibytes * 1048576 / best["proved", kind], mebibytes * 1048576 / best["twin", kind], best["twin", kind] / best["proved", kind]
+  }
   END {
-    if (sum["proved"] != sum["twin"]) { print "the sums differ"; exit 1 }
-    bytes = 64 * 1048576
-    for (i = split("whole records", kinds, " "); i > 0; i--) {
-      kind = kinds[i]
-      printf "%-8s proved %7.1f MB/s  twin %7.1f MB/s  ratio %.2f\n", kind, bytes / best["proved", kind], bytes / best["twin", kind], best["twin", kind] / best["proved", kind]
-    }
+    if (sums["proved"] != sums["twin"]) { print "the sums differ"; exit 1 }
+    line("whole", 64)
+    line("records", 64)
   }'

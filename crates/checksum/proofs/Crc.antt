@@ -92,9 +92,9 @@ crc-append xs ys =
     ∙ ap (λ (n : ℕ). bitXor n all-ones) (sym (run-append all-ones xs ys))
 
 pub check-value : Check-value
-unfolding Check-value bit bits step run crc
+unfolding bit bits step run crc
 check-value = refl
 
 pub zeros-do-not-fit : Zeros-do-not-fit
-unfolding Zeros-do-not-fit bit bits step run crc
+unfolding bit bits step run crc
 zeros-do-not-fit e = let clash : _≡_ {A = ℕ} 0x84FBECEE 0 = e in omega arith

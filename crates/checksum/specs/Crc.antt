@@ -1,5 +1,5 @@
 -- CRC-32C of a list of bytes, one bit at a time: reflected polynomial, all ones in, all ones out.
--- Assumes nothing. Laws stay shut, so that a caller's proof does not look into them.
+-- Assumes nothing.
 use mathlib.Core.Path.{_≡_}
 use mathlib.Core.Bool.{cond}
 use mathlib.Core.List.{List, [], _∷_}
@@ -39,9 +39,9 @@ unfoldable pub continued : ℕ → List ℕ → ℕ
 continued sum bs = bitXor (run (bitXor sum all-ones) bs) all-ones
 
 -- the published check value
-unfoldable pub Check-value : Type 0
+abbrev pub Check-value : Type 0
 Check-value = crc (codes "123456789") ≡ 0xE3069283
 
 -- so a record of zeros, with 0 where its sum stands, does not fit
-unfoldable pub Zeros-do-not-fit : Type 0
+abbrev pub Zeros-do-not-fit : Type 0
 Zeros-do-not-fit = crc (replicate 24 0) ≡ 0 → ⊥

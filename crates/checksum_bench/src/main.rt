@@ -52,17 +52,16 @@ fn print_sums(rt: &LibcRuntime, bytes: &[u8]) -> io::Result<()> {
     let zeros = crc32c(&[0; 32]);
     let ones = crc32c(&[0xff; 32]);
     let empty = crc32c(&[]);
-    println!(rt, "123456789: {text:08x}")?;
-    println!(rt, "32 zeros: {zeros:08x}")?;
-    println!(rt, "32 ones: {ones:08x}")?;
-    println!(rt, "nothing: {empty:08x}")?;
     let whole = whole(bytes);
     let records = records(bytes);
-    println!(rt, "whole: {whole:08x}")?;
-    println!(rt, "records: {records:08x}")
+    println!(
+        rt,
+        "123456789 {text:08x}, 32 zeros {zeros:08x}, 32 ones {ones:08x}, nothing {empty:08x}, whole {whole:08x}, records {records:08x}"
+    )
 }
 
-fn print_speeds(rt: &LibcRuntime, bytes: &[u8]) -> io::Result<()> {
+// Microseconds that one pass over everything took.
+fn print_times(rt: &LibcRuntime, bytes: &[u8]) -> io::Result<()> {
     let mut whole_best = u128::MAX;
     let mut records_best = u128::MAX;
     let mut sums = 0;
@@ -74,15 +73,16 @@ fn print_speeds(rt: &LibcRuntime, bytes: &[u8]) -> io::Result<()> {
         sums ^= records(bytes);
         records_best = records_best.min(start.elapsed(rt)?.as_micros());
     }
-    println!(rt, "sums {sums:08x}")?;
-    println!(rt, "whole {whole_best}")?;
-    println!(rt, "records {records_best}")
+    println!(
+        rt,
+        "sums {sums:08x} whole {whole_best} records {records_best}"
+    )
 }
 
 fn main(rt: LibcRuntime) -> io::Result<()> {
     let bytes = noise(rt.alloc())?;
-    if env::args(&rt)?.nth(1).is_some() {
-        return print_speeds(&rt, &bytes);
+    match env::args(&rt)?.nth(1) {
+        Some(word) if word.as_str() == "time" => print_times(&rt, &bytes),
+        _ => print_sums(&rt, &bytes),
     }
-    print_sums(&rt, &bytes)
 }
