@@ -1,1 +1,3 @@
 pub mod Schedule
+pub mod Run
+pub mod Pacing
