@@ -1,45 +1,22 @@
 -- Two requests lie apart: whatever happens after a request, the next isn't due before its time.
 -- Assumes nothing.
-use mathlib.Core.Path.{_≡_, refl, sym, ap, subst, _∙_}
-use mathlib.Core.Bool.{Bool, true, false, cond}
+use mathlib.Core.Path.{_≡_, refl}
+use mathlib.Core.Bool.{true, false}
 use mathlib.Core.List.{List, [], _∷_, _++_}
-use Prim.Native.Nat.{ℕ, _+_, _-_, _/_, _≤_, _<_, max}
-use native.Mathlib.Nat.{le-max-right}
+use Prim.Native.Nat.{ℕ, _+_, _-_, _≤_}
 use native.Mathlib.Omega.{arith}
-use lib.Dec.{leb, ltb}
 use Rattle.std.specs.declared.option.Option.{Option}
 use Rattle.std.specs.declared.option.Option.the-variants.{Some, None}
 use Rattle.std.proofs.shelf.Tests.{cond-both, leb-true, both-ways}
-use Rattle.retry.specs.declared.schedule.Pause.{Pause}
-use Rattle.retry.specs.declared.schedule.Pause.the-variants.{Four, Eight, Sixteen, ThirtyTwo, SixtyFour}
 use Rattle.retry.specs.declared.schedule.Schedule.{Schedule}
-use Rattle.retry.specs.Schedule.{lasts, renewal, requested, isDue}
-use Rattle.retry.specs.Run.{Client, Event, Starts, Ticks, Asks, Takes, over, ticked, step, client, Fits, Lawful}
+use Rattle.retry.specs.Schedule.{requested}
+use Rattle.retry.specs.Run.{Client, Event, Starts, Ticks, Asks, Takes, over, step, client, Fits, Lawful}
 use Rattle.retry.specs.Pacing.{starts, loses, Never, FourApart, SixtyApart}
-
-pub some-same : (a b : ℕ) → _≡_ {A = Option ℕ} (Some a) (Some b) → a ≡ b
-some-same a b e = cc
-
-pub some-none : (a : ℕ) → _≡_ {A = Option ℕ} None (Some a) → ⊥
-some-none a e = let z : _≡_ {A = ℕ} 0 1 = cc in omega arith
-
-pub renewal-least : (left : ℕ) → 60 ≤ renewal left
-renewal-least left = le-max-right ((left + 1) / 2) 60
-
-lasts-least : (p : Pause) → 4 ≤ lasts p
-lasts-least Four = omega arith
-lasts-least Eight = omega arith
-lasts-least Sixteen = omega arith
-lasts-least ThirtyTwo = omega arith
-lasts-least SixtyFour = omega arith
+use Rattle.retry.proofs.Steps.{some-same, some-none, lasts-within, renewal-least, requested-some}
 
 requested-least : (s : Schedule) (now : ℕ) (o : Option ℕ) → now + 4 ≤ requested s now o .next
-requested-least s now None = omega (arith, lasts-least (s .pause))
+requested-least s now None = omega (arith, lasts-within (s .pause) .0)
 requested-least s now (Some u) = omega (arith, renewal-least (u - now))
-
-requested-using : (s : Schedule) (now u : ℕ) (o : Option ℕ) → o ≡ Some u → now + 60 ≤ requested s now o .next
-requested-using s now u None e = absurd (some-none u e)
-requested-using s now u (Some v) e = omega (arith, renewal-least (v - now))
 
 -- a moment after the request sent at `q`
 record After (q : ℕ) (c : Client) : Type 0 where
@@ -76,7 +53,7 @@ sixty-step q c Ticks f s h n =
     cond-both (over (c .clock + 1) (c .uses)) _ _ (λ (x : Client). Sixty q x)
     (λ e u g. absurd (some-none u g))
     (λ e. n)
-sixty-step q c Asks f s h n = λ u g. omega (arith, h .clock, requested-using (c .schedule) (c .clock) u (c .uses) g)
+sixty-step q c Asks f s h n = λ u g. omega (arith, h .clock, requested-some (c .schedule) (c .clock) u (c .uses) g, renewal-least (u - c .clock))
 sixty-step q c (Takes asked term) f s h n = λ u g. omega (arith, h .waits asked (f .0), renewal-least term)
 
 module _ (before : List Event) where
@@ -98,7 +75,8 @@ module _ (before : List Event) where
   sixty : (between : List Event) → Lawful (between ++ (Asks ∷ before)) → Never starts (Asks ∷ before) between →
       Sixty (client before .clock) (client (between ++ (Asks ∷ before)))
   unfolding Never Lawful client Sixty
-  sixty [] f s = λ u g. requested-using (client before .schedule) (client before .clock) u (client before .uses) g
+  sixty [] f s =
+      λ u g. omega (arith, requested-some (client before .schedule) (client before .clock) u (client before .uses) g, renewal-least (u - client before .clock))
   sixty (e ∷ es) f s = sixty-step _ _ e (f .0) (s .0) (after es (s .1)) (sixty es (f .1) (s .1))
 
 pub four-apart : FourApart

@@ -1,34 +1,19 @@
 -- A client that asks whenever it is due: its pauses end, and it asks again before a use is over.
 -- Assumes nothing.
-use mathlib.Core.Path.{_≡_, refl, sym, ap, subst, _∙_}
-use mathlib.Core.Bool.{Bool, true, false, cond}
+use mathlib.Core.Path.{_≡_, refl, sym, _∙_}
+use mathlib.Core.Bool.{true, false}
 use mathlib.Core.Logic.{_⊎_, inl, inr}
 use mathlib.Core.List.{List, [], _∷_, _++_}
-use Prim.Native.Nat.{ℕ, _+_, _-_, _/_, _≤_, _<_, max}
+use Prim.Native.Nat.{ℕ, _+_, _/_, _≤_, _<_}
 use native.Mathlib.Nat.{max-le}
 use native.Mathlib.Omega.{arith}
-use lib.Dec.{leb, ltb}
 use Rattle.std.specs.declared.option.Option.{Option}
 use Rattle.std.specs.declared.option.Option.the-variants.{Some, None}
 use Rattle.std.proofs.shelf.Tests.{cond-both, leb-false, ltb-true, both-ways}
-use Rattle.retry.specs.declared.schedule.Pause.{Pause}
-use Rattle.retry.specs.declared.schedule.Pause.the-variants.{Four, Eight, Sixteen, ThirtyTwo, SixtyFour}
-use Rattle.retry.specs.declared.schedule.Schedule.{Schedule}
-use Rattle.retry.specs.Schedule.{lasts, renewal, requested, isDue}
+use Rattle.retry.specs.Schedule.{renewal}
 use Rattle.retry.specs.Run.{Client, Event, Starts, Ticks, Asks, Takes, over, step, client, Fits, Lawful}
 use Rattle.retry.specs.Pacing.{starts, asks, takes, tarries, Never, AsksBy, StillUses, PausesEnd, AsksInTime}
-use Rattle.retry.proofs.Apart.{some-same, some-none}
-
-lasts-most : (p : Pause) → lasts p ≤ 64
-lasts-most Four = omega arith
-lasts-most Eight = omega arith
-lasts-most Sixteen = omega arith
-lasts-most ThirtyTwo = omega arith
-lasts-most SixtyFour = omega arith
-
-requested-most : (s : Schedule) (now : ℕ) (o : Option ℕ) → o ≡ None → requested s now o .next ≤ now + 64
-requested-most s now None e = omega (arith, lasts-most (s .pause))
-requested-most s now (Some u) e = absurd (some-none u (sym e))
+use Rattle.retry.proofs.Steps.{some-same, some-none, lasts-within, requested-none}
 
 -- without an address the next request is never further off than the longest pause
 Soon : Client → Type 0
@@ -41,7 +26,7 @@ soon-step c Ticks h =
     cond-both (over (c .clock + 1) (c .uses)) _ _ (λ (x : Client). Soon x)
     (λ e g. omega arith)
     (λ e g. omega (arith, h g))
-soon-step c Asks h = λ g. requested-most (c .schedule) (c .clock) (c .uses) g
+soon-step c Asks h = λ g. omega (arith, requested-none (c .schedule) (c .clock) (c .uses) g .0, lasts-within (c .schedule .pause) .1)
 soon-step c (Takes asked term) h = λ g. absurd (some-none (asked + term) (sym g))
 
 soon : (es : List Event) → Soon (client es)

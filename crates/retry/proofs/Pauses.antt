@@ -1,23 +1,23 @@
 -- The pauses of a client without an address, one by one.
 -- Assumes nothing.
 use mathlib.Core.Path.{_≡_, refl, sym, ap, subst, _∙_}
-use mathlib.Core.Bool.{Bool, true, false, cond, _||_}
-use mathlib.Core.Logic.{_⊎_, inl, inr}
+use mathlib.Core.Bool.{true, false, _||_}
+use mathlib.Core.Logic.{inl, inr}
 use mathlib.Core.List.{List, [], _∷_, _++_}
-use Prim.Native.Nat.{ℕ, zero, suc, _+_, _*_, _^_, _≤_, _<_, min}
+use Prim.Native.Nat.{ℕ, suc, _+_, _*_, _^_, _≤_, _<_, min}
 use native.Mathlib.Nat.{add-assoc, pow-succ', min-eq-left, min-eq-right}
 use native.Mathlib.Omega.{arith}
 use lib.Dec.{leb}
 use Rattle.std.specs.declared.option.Option.{Option}
 use Rattle.std.specs.declared.option.Option.the-variants.{Some, None}
-use Rattle.std.proofs.shelf.Tests.{cond-both, leb-true, leb-false, both-ways, cases-lt}
+use Rattle.std.proofs.shelf.Tests.{cond-both, leb-true, leb-false, le-leb, both-ways, cases-lt}
 use Rattle.retry.specs.declared.schedule.Pause.{Pause}
 use Rattle.retry.specs.declared.schedule.Pause.the-variants.{Four, Eight, Sixteen, ThirtyTwo, SixtyFour}
 use Rattle.retry.specs.declared.schedule.Schedule.{Schedule}
-use Rattle.retry.specs.Schedule.{lasts, longer, starting, requested, isDue}
+use Rattle.retry.specs.Schedule.{lasts, longer, starting}
 use Rattle.retry.specs.Run.{Client, Event, Starts, Ticks, Asks, Takes, over, step, client, Fits, Lawful}
-use Rattle.retry.specs.Pacing.{starts, asks, takes, loses, tarries, Never, Begins, requests, pauseAt, elapsed, KthPause, Timetable}
-use Rattle.retry.proofs.Apart.{some-none}
+use Rattle.retry.specs.Pacing.{starts, asks, takes, loses, tarries, Never, Begins, requests, pauseAt, elapsed, DueAtOnce, KthPause, Timetable}
+use Rattle.retry.proofs.Steps.{some-none, requested-none, clock-step}
 
 -- each pause is twice the one before, up to 64
 longer-lasts : (p : Pause) → lasts (longer p) ≡ min (2 * lasts p) 64
@@ -47,11 +47,6 @@ over-none now (Some u) e t = some-none u (sym e)
 -- to a client without an address a tick is a tick
 ticks-none : (c : Client) (P : Client → Type 0) → c .uses ≡ None → P (record { clock = c .clock + 1; uses = c .uses; waits = c .waits; schedule = c .schedule }) → P (step Ticks c)
 ticks-none c P u p = cond-both (over (c .clock + 1) (c .uses)) _ _ P (λ e. absurd (over-none (c .clock + 1) (c .uses) u e)) (λ e. p)
-
-requested-none : (s : Schedule) (now : ℕ) (o : Option ℕ) → o ≡ None →
-    (requested s now o .next ≡ now + lasts (s .pause)) × (requested s now o .pause ≡ longer (s .pause))
-requested-none s now None e = (refl, refl)
-requested-none s now (Some u) e = absurd (some-none u (sym e))
 
 -- a client that has just lost its address, or started
 record Fresh (c : Client) : Type 0 where
@@ -123,6 +118,17 @@ set : (due : ℕ) (before between : List Event) → Set due (client before) → 
 unfolding Never client
 set due before [] h s k a = h
 set due before (e ∷ es) h s k a = set-step due (client (es ++ before)) e (s .0) (k .0) (a .0) (set due before es h (s .1) (k .1) (a .1))
+
+onward : (before between : List Event) → Never starts before between → client before .clock ≤ client (between ++ before) .clock
+unfolding Never client
+onward before [] s = omega arith
+onward before (e ∷ es) s = omega (arith, onward before es (s .1), clock-step (client (es ++ before)) e (s .0))
+
+pub due-at-once : DueAtOnce
+due-at-once begin between b s k a =
+    let n : client begin .schedule .next ≡ client begin .clock = ap (λ (x : Schedule). x .next) (fresh begin b .schedule) in
+    let h : Set (client begin .clock) (client (between ++ begin)) = set (client begin .clock) begin between (record { uses = fresh begin b .uses; next = n }) s k a in
+    le-leb _ _ (omega (arith, h .next, onward begin between s))
 
 after-request : (begin during : List Event) → Begins begin → Never starts begin during → Never takes begin during →
     Set (client (during ++ begin) .clock + pauseAt (requests during)) (client (Asks ∷ (during ++ begin)))

@@ -1,12 +1,11 @@
 -- How a client's requests lie in time, over whole runs: what is promised of its schedule.
 -- Assumes nothing. A stretch of a run is `between`, the events after `before`.
 use mathlib.Core.Path.{_≡_}
-use mathlib.Core.Bool.{Bool, true, false, _||_}
+use mathlib.Core.Bool.{Bool, true, false, _&&_, _||_}
 use mathlib.Core.Logic.{_⊎_}
 use mathlib.Core.List.{List, [], _∷_, _++_}
-use Prim.Native.Nat.{ℕ, zero, suc, _+_, _*_, _^_, _≤_, min}
+use Prim.Native.Nat.{ℕ, zero, suc, _+_, _-_, _*_, _^_, _≤_, min}
 use lib.Dec.{leb}
-use Rattle.std.specs.declared.option.Option.{Option}
 use Rattle.std.specs.declared.option.Option.the-variants.{Some, None}
 use Rattle.retry.specs.Schedule.{isDue}
 use Rattle.retry.specs.Run.{Client, Event, Starts, Ticks, Asks, Takes, over, client, Lawful}
@@ -63,6 +62,15 @@ SixtyApart =
     (until : ℕ) → client (between ++ (Asks ∷ before)) .uses ≡ Some until →
     client before .clock + 60 ≤ client (between ++ (Asks ∷ before)) .clock
 
+-- A client that uses an address is due again exactly from then on when, since its last request, 60 ticks have passed and at least half of the use that was left then.
+abbrev pub Halfway : Type 0
+Halfway =
+    (before between : List Event) (until : ℕ) → Lawful (between ++ (Asks ∷ before)) → Never starts (Asks ∷ before) between → Never asks (Asks ∷ before) between →
+    client (between ++ (Asks ∷ before)) .uses ≡ Some until →
+    let q : ℕ = client before .clock in
+    let c : Client = client (between ++ (Asks ∷ before)) in
+    isDue (c .schedule) (c .clock) ≡ (leb 60 (c .clock - q) && leb (until - q) (2 * (c .clock - q)))
+
 -- A client that has no address, and asks whenever it is due, lets at most 64 ticks pass without a request.
 abbrev pub PausesEnd : Type 0
 PausesEnd =
@@ -93,6 +101,12 @@ AsksInTime =
 abbrev pub Begins : List Event → Type 0
 Begins [] = Unit
 Begins (e ∷ es) = (starts (client es) e || loses (client es) e) ≡ true
+
+-- A client that has just started, or lost its address, is due at once, and stays so until it asks.
+abbrev pub DueAtOnce : Type 0
+DueAtOnce =
+    (begin between : List Event) → Begins begin → Never starts begin between → Never takes begin between → Never asks begin between →
+    isDue (client (between ++ begin) .schedule) (client (between ++ begin) .clock) ≡ true
 
 -- how many requests were sent
 unfoldable pub requests : List Event → ℕ

@@ -3,7 +3,10 @@ mod pacing;
 mod schedule;
 
 pub use pacing::asks_in_time;
+pub use pacing::bounds_reached;
+pub use pacing::due_at_once;
 pub use pacing::four_apart;
+pub use pacing::halfway;
 pub use pacing::kth_pause;
 pub use pacing::pauses_end;
 pub use pacing::sixty_apart;
