@@ -1,0 +1,4 @@
+pub mod Schedule
+pub mod Run
+pub mod Pacing
+pub mod Reached
