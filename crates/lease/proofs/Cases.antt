@@ -2,10 +2,10 @@
 -- Assumes nothing.
 use mathlib.Core.Path.{refl}
 use Rattle.lease.specs.Choosing.{lowest}
-use Rattle.lease.specs.World.{sent}
+use Rattle.lease.specs.World.{elem, sent}
 use Rattle.lease.specs.Run.{world}
 use Rattle.lease.specs.Cases.{AllSeen, CasesHold}
 
 pub cases-hold : CasesHold
-unfolding AllSeen world sent lowest
+unfolding AllSeen world elem sent lowest
 cases-hold = (refl, (refl, (refl, (refl, (refl, (refl, (refl, (refl, (refl, (refl, (refl, (refl, (refl, tt)))))))))))))

@@ -13,23 +13,23 @@ use Rattle.lease.specs.declared.message.Grant.{Grant}
 use Rattle.lease.specs.Settings.{Settings, life}
 use Rattle.lease.specs.Table.{Table}
 use Rattle.lease.specs.Holding.{Use, Wait}
-use Rattle.lease.specs.World.{Message, Grants, Client, World}
+use Rattle.lease.specs.World.{Message, Grants, Client, World, elem}
 
 abbrev pub In : {A : Type 0} → A → List A → Type 0
 In x [] = ⊥
 In x (y ∷ ys) = (x ≡ y) ⊎ In x ys
 
--- what a claim rests on: the server's clock, until when it is silent, the book, all messages, and the next nonce.
+-- what a claim rests on: the server's clock, until when it is silent, the book, all messages, and the nonces that were drawn.
 -- The book is the table, or in the silence the one that was lost.
 pub record View : Type 0 where
   pub now : ℕ
   pub hush : Option ℕ
   pub book : Table
   pub messages : List Message
-  pub next : ℕ
+  pub drawn : List ℕ
 
 abbrev pub view : World → Table → View
-view w book = record { now = w .server .clock; hush = w .server .silent; book = book; messages = w .messages; next = w .next }
+view w book = record { now = w .server .clock; hush = w .server .silent; book = book; messages = w .messages; drawn = w .drawn }
 
 -- the book has the address as the client's, until `v` or longer
 pub record Line (book : Table) (a c v : ℕ) : Type 0 where
@@ -62,7 +62,7 @@ pub record Using (s : Settings) (S : ℕ → ℕ → Type 0) (k : View) (c : ℕ
 -- each grant that could still be taken rests on a claim
 pub record Waiting (s : Settings) (S : ℕ → ℕ → Type 0) (k : View) (c : ℕ) (x : Client) (q : Wait) : Type 0 where
   pub up : x .up ≡ true
-  pub drawn : q .nonce < k .next
+  pub drawn : elem (q .nonce) (k .drawn) ≡ true
   pub past : q .asked ≤ x .clock
   pub claims : (g : Grant) → In (Grants g) (k .messages) → g .client ≡ c → g .nonce ≡ q .nonce → x .clock ≤ q .asked + s .term →
       Claim (life s) S k c (x .clock) (q .asked) (g .address)
@@ -75,7 +75,7 @@ pub record Holds (s : Settings) (S : ℕ → ℕ → Type 0) (k : View) (c : ℕ
 pub record Moves (s : Settings) (S S′ : ℕ → ℕ → Type 0) (k k′ : View) (c : ℕ) (x x′ : Client) : Type 0 where
   pub up : x′ .up ≡ x .up
   pub clock : x .clock ≤ x′ .clock
-  pub next : k .next ≤ k′ .next
+  pub drawn : (n : ℕ) → elem n (k .drawn) ≡ true → elem n (k′ .drawn) ≡ true
   pub claims : (asked a : ℕ) → x .up ≡ true → x′ .clock ≤ asked + s .term → Claim (life s) S k c (x .clock) asked a → Claim (life s) S′ k′ c (x′ .clock) asked a
   pub grants : (g : Grant) → g .client ≡ c → In (Grants g) (k′ .messages) →
       In (Grants g) (k .messages) ⊎ (x .up ≡ true → (asked : ℕ) → asked ≤ x .clock → Claim (life s) S′ k′ c (x′ .clock) asked (g .address))
@@ -95,7 +95,7 @@ module _ (s : Settings) (S S′ : ℕ → ℕ → Type 0) (k k′ : View) (c : �
   waiting-moves q h =
       record {
         up = m .up ∙ h .up;
-        drawn = omega (arith, h .drawn, m .next);
+        drawn = m .drawn (q .nonce) (h .drawn);
         past = omega (arith, h .past, m .clock);
         claims = λ g i own same l. elim (m .grants g own i) [
           | inl j ↦ m .claims (q .asked) (g .address) (h .up) l (h .claims g j own same (omega (arith, m .clock)))

@@ -18,7 +18,7 @@ use Rattle.lease.specs.declared.message.Grant.{Grant}
 use Rattle.lease.specs.Settings.{Settings}
 use Rattle.lease.specs.Table.{at}
 use Rattle.lease.specs.Holding.{Holding, taking, settled}
-use Rattle.lease.specs.World.{Message, Requests, Grants, Server, Client, World, sent}
+use Rattle.lease.specs.World.{Message, Requests, Grants, Server, Client, World, elem, sent}
 use Rattle.lease.specs.Run.{Event, Pass, Asks, ServerHears, ServerHearsAndCrashes, ClientHears, ClientStarts, ClientCrashes, ServerCrashes, ServerRestarts, asks, requested, answer, serves, serverHears, heldBy, hearing, withClient, clientHears, step, world}
 use Rattle.lease.specs.Premise.{spares, sparesAll, Stretch, Close, Onward, Forward, AllAlong}
 use Rattle.lease.specs.Drift.{Gains, GainsAtMost, LittleDrift}
@@ -86,9 +86,9 @@ step-gains x s w c (Pass k f) g sp u =
     let p : _ = client-clock (f c) (w .clients c) u in
     let q : _ = passes-clock k (w .server) .0 in
     record { up = ap (λ (y : Client). y .up) (cond-true (w .clients c .up) _ (w .clients c) u) ∙ u; behind = omega (arith, p, q, g c .0); near = omega (arith, p, q, g c .1) }
-step-gains x s w c (Asks d p) g sp u =
-    cond-both (w .clients d .up) (requested d p w) w (λ w′. Gained x w w′ c)
-    (λ e. still x w (requested d p w) c u refl (at-alike w c d _ (record { clock = refl; up = refl }))) (λ e. still x w w c u refl (alike _))
+step-gains x s w c (Asks d n p) g sp u =
+    cond-both (w .clients d .up && not (elem n (w .drawn))) (requested d n p w) w (λ w′. Gained x w w′ c)
+    (λ e. still x w (requested d n p w) c u refl (at-alike w c d _ (record { clock = refl; up = refl }))) (λ e. still x w w c u refl (alike _))
 step-gains x s w c (ServerHears i) g sp u =
     still x w _ c u (hears-clock s w (sent i (w .messages)) .0) (subst (λ (f : ℕ → Client). Alike (w .clients c) (f c)) (sym (hears-clock s w (sent i (w .messages)) .1)) (alike _))
 step-gains x s w c (ServerHearsAndCrashes i wrote) g sp u = crash-still x s w c i wrote u
@@ -118,7 +118,7 @@ close s n es l g c before q =
 
 onward : (x : ℕ) (e : Event) (w : World) → Gains x e w → Onward e w
 onward x (Pass k f) w g = tt
-onward x (Asks d p) w g = tt
+onward x (Asks d n p) w g = tt
 onward x (ServerHears i) w g = tt
 onward x (ServerHearsAndCrashes i wrote) w g = tt
 onward x (ClientHears d i) w g = tt

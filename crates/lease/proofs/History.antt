@@ -89,7 +89,7 @@ sound-step s S S′ (Pass k f) w ag ag′ ks now now′ so =
     let p : (serverPasses k (w .server) .clock ≡ w .server .clock + k) × (serverPasses k (w .server) .up ≡ w .server .up) = passes-clock k (w .server) in
     let q : clientPasses (f c) (w .clients c) .clock ≡ w .clients c .clock + f c = client-clock (f c) (w .clients c) x in
     omega (arith, p .0, ag′ c (p .1 ∙ up) t h (ks c refl t h m) (omega (arith, q)) (omega (arith, q))))
-sound-step s S S′ (Asks c p) w ag ag′ ks now now′ so = client-asks s S S′ w so c p (λ c. ks c refl)
+sound-step s S S′ (Asks c n p) w ag ag′ ks now now′ so = client-asks s S S′ w so c n p (λ c. ks c refl)
 sound-step s S S′ (ServerHears i) w ag ag′ ks now now′ so = server-hears s S S′ w so ag (λ c. ks c refl) now _ (sent-in i (w .messages))
 sound-step s S S′ (ServerHearsAndCrashes i wrote) w ag ag′ ks now now′ so = server-hears-and-crashes s S S′ w so ag (λ c. ks c refl) now _ wrote (sent-in i (w .messages))
 sound-step s S S′ (ClientHears c i) w ag ag′ ks now now′ so = client-hears s S S′ w so c (λ c. ks c refl) _ (sent-in i (w .messages))

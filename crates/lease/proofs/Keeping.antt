@@ -1,7 +1,7 @@
 -- In a run in which the server's clock never goes back, no client ever has two live leases.
 -- Assumes nothing.
 use mathlib.Core.Path.{_≡_, refl, sym}
-use mathlib.Core.Bool.{Bool, true, false, cond, _||_}
+use mathlib.Core.Bool.{Bool, true, false, cond, _&&_, _||_, not}
 use mathlib.Core.List.{List, [], _∷_}
 use Prim.Native.Nat.{ℕ, _+_, _<_, _≤_}
 use native.Mathlib.Omega.{arith}
@@ -15,7 +15,7 @@ use Rattle.lease.specs.declared.message.Grant.{Grant}
 use Rattle.lease.specs.Settings.{Settings, life}
 use Rattle.lease.specs.Table.{Table, empty, OneEach, Pooled}
 use Rattle.lease.specs.Choosing.{Chosen}
-use Rattle.lease.specs.World.{Message, Requests, Grants, Server, World, isSilent, sent}
+use Rattle.lease.specs.World.{Message, Requests, Grants, Server, World, isSilent, elem, sent}
 use Rattle.lease.specs.Run.{Event, Pass, Asks, ServerHears, ServerHearsAndCrashes, ClientHears, ClientStarts, ClientCrashes, ServerCrashes, ServerRestarts, over, requested, asks, answer, serves, serverHears, clientHears, step, world}
 use Rattle.lease.specs.Premise.{Onward, Forward}
 use Rattle.lease.specs.Promise.{OneLeaseEach}
@@ -62,7 +62,7 @@ tidy-step : (s : Settings) (e : Event) (w : World) → Onward e w → Tidy s (w 
 tidy-step s (Pass n f) w on k =
     cond-both (over (w .server .clock + n) (w .server .up) (w .server .silent)) _ _ (λ v. Tidy s v)
     (λ e. tidy-empty s _ _ _) (λ e. tidy-later s (w .server) _ _ _ (omega arith) k)
-tidy-step s (Asks c p) w on k = cond-both (w .clients c .up) (requested c p w) w (λ w′. Tidy s (w′ .server)) (λ e. k) (λ e. k)
+tidy-step s (Asks c n p) w on k = cond-both (w .clients c .up && not (elem n (w .drawn))) (requested c n p w) w (λ w′. Tidy s (w′ .server)) (λ e. k) (λ e. k)
 tidy-step s (ServerHears i) w on k = hears-tidy s w (sent i (w .messages)) k
 tidy-step s (ServerHearsAndCrashes i wrote) w on k = crashes-tidy s w i wrote k
 tidy-step s (ClientHears c i) w on k = client-tidy s w c (sent i (w .messages)) k

@@ -35,7 +35,7 @@ module _ (s : Settings) (S S′ : Moments) (w : World) (k : Sound s S w) where
   module _ (n : ℕ) (f : ℕ → ℕ) (ks : (c : ℕ) → Kept S S′ c)
       (ag : v .up ≡ true → (c : ℕ) → w .clients c .up ≡ true → (t h : ℕ) → S c t h → t ≤ w .clients c .clock + f c → w .clients c .clock + f c ≤ t + s .term → v .clock + n ≤ h + life s) where
     abbrev viewed : Server → Table → View
-    viewed v′ book = record { now = v′ .clock; hush = v′ .silent; book = book; messages = w .messages; next = w .next }
+    viewed v′ book = record { now = v′ .clock; hush = v′ .silent; book = book; messages = w .messages; drawn = w .drawn }
 
     abbrev older : ℕ → Client
     older c = record { clock = w .clients c .clock + f c; up = w .clients c .up; holding = later (w .clients c .clock + f c) (w .clients c .holding) }
@@ -46,7 +46,7 @@ module _ (s : Settings) (S S′ : Moments) (w : World) (k : Sound s S w) where
     client-passes v′ book′ c claims =
         cond-both (w .clients c .up) (older c) (w .clients c) (λ x. Holds s (S′ c) (viewed v′ book′) c x)
         (λ e. holds-moves s (S c) (S′ c) (view w (k .book)) (viewed v′ book′) c (w .clients c) (older c)
-        (record { up = refl; clock = omega arith; next = omega arith; claims = claims; grants = λ g own i. inl i })
+        (record { up = refl; clock = omega arith; drawn = λ n e. e; claims = claims; grants = λ g own i. inl i })
         (still-used (w .clients c .clock + f c) (w .clients c .holding .uses)) refl (k .holds c))
         (λ e. record {
           uses = λ u g. absurd (both-ways _ e (k .holds c .uses u g .up));
@@ -55,7 +55,7 @@ module _ (s : Settings) (S S′ : Moments) (w : World) (k : Sound s S w) where
 
     pub time-passes : Sound s S′ (passes n f w)
     time-passes =
-        cond-both (over (v .clock + n) (v .up) (v .silent)) ended going (λ v′. Sound s S′ (record { server = v′; clients = λ c. clientPasses (f c) (w .clients c); messages = w .messages; next = w .next }))
+        cond-both (over (v .clock + n) (v .up) (v .silent)) ended going (λ v′. Sound s S′ (record { server = v′; clients = λ c. clientPasses (f c) (w .clients c); messages = w .messages; drawn = w .drawn }))
         (λ e. record {
           book = empty;
           kept = λ g a. refl;

@@ -18,7 +18,7 @@ use Rattle.lease.specs.declared.message.Grant.{Grant}
 use Rattle.lease.specs.Settings.{Settings, life, silence}
 use Rattle.lease.specs.Table.{Table, empty, at, leased, written}
 use Rattle.lease.specs.Choosing.{Chosen}
-use Rattle.lease.specs.World.{Message, Requests, Grants, Server, World, isSilent}
+use Rattle.lease.specs.World.{Message, Requests, Grants, Server, World, isSilent, elem}
 use Rattle.lease.specs.Run.{answer, serves, lends, crashes, withServer, restarts, replied, serverHears}
 use Rattle.lease.proofs.Options.{none-some, some-same}
 use Rattle.lease.proofs.Choosing.{laws}
@@ -67,10 +67,10 @@ module _ (s : Settings) (S S′ : Moments) (w : World) (k : Sound s S w) where
   -- the server hears a request
   module _ (ag : (c : ℕ) → Agrees s (S c) w c) (ks : (c : ℕ) → Kept S S′ c) (now : (c : ℕ) → v .up ≡ true → w .clients c .up ≡ true → S c (w .clients c .clock) (v .clock)) where
     -- a grant: no other client's claim is on the address, since its lease would be live
-    grant-sound : (r : Request) (g : Grant) → r .nonce < w .next → GrantedBy s v r g → Sound s S′ (replied s (Granted g) w)
+    grant-sound : (r : Request) (g : Grant) → elem (r .nonce) (w .drawn) ≡ true → GrantedBy s v r g → Sound s S′ (replied s (Granted g) w)
     grant-sound r g drawn by =
         server-does s S S′ w k (lends s g v) book′ (Grants g ∷ w .messages) (λ e a. ap (cond (eqb a (g .address)) (Some new)) (k .kept e a))
-        (λ m. elim [ inl e ↦ rw e (omega (arith, by .nonce, drawn)) | inr i ↦ k .nonces m i ])
+        (λ m. elim [ inl e ↦ rw (e, by .nonce) drawn | inr i ↦ k .nonces m i ])
         (λ d asked a d-up l x. claim-on (life s) (S d) (S′ d) (view w (k .book)) _ d _ _ asked a (ks d) (omega arith) x (x .past) (x .hushed) (lines d asked a l x))
         (λ d m own. elim [
           | inl e ↦
@@ -114,7 +114,7 @@ module _ (s : Settings) (S S′ : Moments) (w : World) (k : Sound s S w) where
               | inr e ↦ record { lease = x .line .lease; there = cond-false (eqb a (g .address)) _ _ e ∙ x .line .there; client = x .line .client; expires = x .line .expires }
             ]
 
-    answer-sound : (r : Request) → r .nonce < w .next → (x : Answer) → Meant s v r x → Sound s S′ (replied s x w)
+    answer-sound : (r : Request) → elem (r .nonce) (w .drawn) ≡ true → (x : Answer) → Meant s v r x → Sound s S′ (replied s x w)
     answer-sound r drawn Unheard by = same s S S′ w k ks
     answer-sound r drawn (Granted g) by = grant-sound r g drawn by
     answer-sound r drawn (Refused f) by = same s S S′ w k ks
@@ -125,7 +125,7 @@ module _ (s : Settings) (S S′ : Moments) (w : World) (k : Sound s S w) where
     server-hears (Some (Requests r)) i = answer-sound r (k .nonces _ (i _ refl)) (answer s v r) (meant s v r)
 
     -- the lease is written, and the server crashes before the grant is sent
-    answer-lost : (r : Request) → r .nonce < w .next → (x : Answer) → Meant s v r x → Sound s S′ (withServer (crashes (serves s x v)) w)
+    answer-lost : (r : Request) → elem (r .nonce) (w .drawn) ≡ true → (x : Answer) → Meant s v r x → Sound s S′ (withServer (crashes (serves s x v)) w)
     answer-lost r drawn Unheard by = server-crashes ks
     answer-lost r drawn (Granted g) by = sound-loses s S′ (replied s (Granted g) w) (w .messages) (λ m i. inr i) (grant-sound r g drawn by)
     answer-lost r drawn (Refused f) by = server-crashes ks

@@ -14,7 +14,7 @@ use Rattle.lease.specs.declared.message.Request.{Request}
 use Rattle.lease.specs.declared.message.Grant.{Grant}
 use Rattle.lease.specs.Settings.{Settings, life}
 use Rattle.lease.specs.Table.{Table, at}
-use Rattle.lease.specs.World.{Message, Requests, Grants, Server, Client, World}
+use Rattle.lease.specs.World.{Message, Requests, Grants, Server, Client, World, elem}
 use Rattle.lease.specs.Run.{crashes}
 use Rattle.lease.proofs.Claims.{In, View, view, Claim, Holds, Moves, holds-same, claim-on}
 
@@ -29,7 +29,7 @@ Moments = ℕ → ℕ → ℕ → Type 0
 pub record Sound (s : Settings) (S : Moments) (w : World) : Type 0 where
   pub book : Table
   pub kept : w .server .silent ≡ None → (a : ℕ) → book a ≡ w .server .table a
-  pub nonces : (m : Message) → In m (w .messages) → nonceOf m < w .next
+  pub nonces : (m : Message) → In m (w .messages) → elem (nonceOf m) (w .drawn) ≡ true
   pub holds : (c : ℕ) → Holds s (S c) (view w book) c (w .clients c)
 
 -- the lemma on clocks: since a moment that `S` speaks of, a client that counted at most a term saw the server count at most a lease's life
@@ -46,7 +46,7 @@ Kept S S′ c = (t h : ℕ) → S c t h → S′ c t h
 
 -- messages may be lost, and the server may crash
 pub sound-loses : (s : Settings) (S : Moments) (w : World) (ms : List Message) → ((m : Message) → In m ms → In m (w .messages)) → Sound s S w →
-    Sound s S (record { server = crashes (w .server); clients = w .clients; messages = ms; next = w .next })
+    Sound s S (record { server = crashes (w .server); clients = w .clients; messages = ms; drawn = w .drawn })
 sound-loses s S w ms sub k =
     record {
       book = k .book;
@@ -56,7 +56,7 @@ sound-loses s S w ms sub k =
           (record {
             up = refl;
             clock = omega arith;
-            next = omega arith;
+            drawn = λ n e. e;
             claims = λ asked a x l q. claim-on (life s) (S c) (S c) (view w (k .book)) _ c _ _ asked a (λ t h m. m) (omega arith) q (q .past) (q .hushed) (q .line);
             grants = λ g own i. inl (sub _ i);
           }) (k .holds c);
@@ -67,37 +67,37 @@ module _ (s : Settings) (S S′ : Moments) (w : World) (k : Sound s S w) where
   v = w .server
 
   abbrev pub viewed : Server → Table → List Message → View
-  viewed v′ book ms = record { now = v′ .clock; hush = v′ .silent; book = book; messages = ms; next = w .next }
+  viewed v′ book ms = record { now = v′ .clock; hush = v′ .silent; book = book; messages = ms; drawn = w .drawn }
 
   -- the server does something, no client does
-  pub server-does : (v′ : Server) (book′ : Table) (ms : List Message) → (v′ .silent ≡ None → (a : ℕ) → book′ a ≡ v′ .table a) → ((m : Message) → In m ms → nonceOf m < w .next) →
+  pub server-does : (v′ : Server) (book′ : Table) (ms : List Message) → (v′ .silent ≡ None → (a : ℕ) → book′ a ≡ v′ .table a) → ((m : Message) → In m ms → elem (nonceOf m) (w .drawn) ≡ true) →
       ((c asked a : ℕ) → w .clients c .up ≡ true → w .clients c .clock ≤ asked + s .term → Mine s S w (k .book) c asked a → Claim (life s) (S′ c) (viewed v′ book′ ms) c (w .clients c .clock) asked a) →
       ((c : ℕ) (g : Grant) → g .client ≡ c → In (Grants g) ms →
       In (Grants g) (w .messages) ⊎ (w .clients c .up ≡ true → (asked : ℕ) → asked ≤ w .clients c .clock → Claim (life s) (S′ c) (viewed v′ book′ ms) c (w .clients c .clock) asked (g .address))) →
-      Sound s S′ (record { server = v′; clients = w .clients; messages = ms; next = w .next })
+      Sound s S′ (record { server = v′; clients = w .clients; messages = ms; drawn = w .drawn })
   server-does v′ book′ ms kept nonces claims grants =
       record {
         book = book′;
         kept = kept;
         nonces = nonces;
         holds = λ c. holds-same s (S c) (S′ c) (view w (k .book)) (viewed v′ book′ ms) c (w .clients c)
-            (record { up = refl; clock = omega arith; next = omega arith; claims = claims c; grants = grants c }) (k .holds c);
+            (record { up = refl; clock = omega arith; drawn = λ n e. e; claims = claims c; grants = grants c }) (k .holds c);
       }
 
   -- a claim stays a claim where neither clock nor book changes
-  pub claim-stays : (c : ℕ) (ms : List Message) (next : ℕ) → Kept S S′ c → (asked a : ℕ) → Mine s S w (k .book) c asked a →
-      Claim (life s) (S′ c) (record { now = v .clock; hush = v .silent; book = k .book; messages = ms; next = next }) c (w .clients c .clock) asked a
-  claim-stays c ms next ks asked a q = claim-on (life s) (S c) (S′ c) (view w (k .book)) _ c _ _ asked a ks (omega arith) q (q .past) (q .hushed) (q .line)
+  pub claim-stays : (c : ℕ) (ms : List Message) (drawn : List ℕ) → Kept S S′ c → (asked a : ℕ) → Mine s S w (k .book) c asked a →
+      Claim (life s) (S′ c) (record { now = v .clock; hush = v .silent; book = k .book; messages = ms; drawn = drawn }) c (w .clients c .clock) asked a
+  claim-stays c ms drawn ks asked a q = claim-on (life s) (S c) (S′ c) (view w (k .book)) _ c _ _ asked a ks (omega arith) q (q .past) (q .hushed) (q .line)
 
   pub same : ((c : ℕ) → Kept S S′ c) → Sound s S′ w
-  same ks = server-does v (k .book) (w .messages) (k .kept) (k .nonces) (λ c asked a x l q. claim-stays c (w .messages) (w .next) (ks c) asked a q) (λ c g own i. inl i)
+  same ks = server-does v (k .book) (w .messages) (k .kept) (k .nonces) (λ c asked a x l q. claim-stays c (w .messages) (w .drawn) (ks c) asked a q) (λ c g own i. inl i)
 
   -- one client does something
-  pub client-does : (c : ℕ) (x : Client) (ms : List Message) (next : ℕ) → ((d : ℕ) → eqb d c ≡ false → Kept S S′ d) → w .next ≤ next →
-      ((m : Message) → In m ms → nonceOf m < next) → ((g : Grant) → In (Grants g) ms → In (Grants g) (w .messages)) →
-      Holds s (S′ c) (record { now = v .clock; hush = v .silent; book = k .book; messages = ms; next = next }) c x →
-      Sound s S′ (record { server = v; clients = at c x (w .clients); messages = ms; next = next })
-  client-does c x ms next ks on nonces old h =
+  pub client-does : (c : ℕ) (x : Client) (ms : List Message) (drawn : List ℕ) → ((d : ℕ) → eqb d c ≡ false → Kept S S′ d) → ((n : ℕ) → elem n (w .drawn) ≡ true → elem n drawn ≡ true) →
+      ((m : Message) → In m ms → elem (nonceOf m) drawn ≡ true) → ((g : Grant) → In (Grants g) ms → In (Grants g) (w .messages)) →
+      Holds s (S′ c) (record { now = v .clock; hush = v .silent; book = k .book; messages = ms; drawn = drawn }) c x →
+      Sound s S′ (record { server = v; clients = at c x (w .clients); messages = ms; drawn = drawn })
+  client-does c x ms drawn ks on nonces old h =
       record {
         book = k .book;
         kept = k .kept;
@@ -108,14 +108,14 @@ module _ (s : Settings) (S S′ : Moments) (w : World) (k : Sound s S w) where
       }
     where
       after : View
-      after = record { now = v .clock; hush = v .silent; book = k .book; messages = ms; next = next }
+      after = record { now = v .clock; hush = v .silent; book = k .book; messages = ms; drawn = drawn }
 
       alike : (d : ℕ) → Kept S S′ d → Moves s (S d) (S′ d) (view w (k .book)) after d (w .clients d) (w .clients d)
       alike d ks =
           record {
             up = refl;
             clock = omega arith;
-            next = on;
-            claims = λ asked a x l q. claim-stays d ms next ks asked a q;
+            drawn = on;
+            claims = λ asked a x l q. claim-stays d ms drawn ks asked a q;
             grants = λ g own i. inl (old g i);
           }

@@ -46,22 +46,22 @@ pub record Case : Type 0 where
 
 -- the client 1 asks at its 10, and the server hears it at its 12
 abbrev pub heard : List Event
-heard = ServerHears 0 ∷ (ticks 2 ∷ (Asks 1 1 ∷ (ticks 10 ∷ (ClientStarts 1 0 ∷ []))))
+heard = ServerHears 0 ∷ (ticks 2 ∷ (Asks 1 90 1 ∷ (ticks 10 ∷ (ClientStarts 1 0 ∷ []))))
 
 -- its grant, and what it has that takes it
 abbrev pub granted : Grant
-granted = record { client = 1; nonce = 0; address = 0 }
+granted = record { client = 1; nonce = 90; address = 0 }
 
 abbrev pub used : Holding
 used = taken 100 0 10
 
 -- another client's request
 abbrev pub another : Request
-another = record { client = 2; nonce = 7; preferred = 1 }
+another = record { client = 2; nonce = 70; preferred = 1 }
 
 -- the client 1 asks twice before any grant, and both requests are heard
 abbrev pub twice : List Event
-twice = ServerHears 1 ∷ (ServerHears 1 ∷ (Asks 1 1 ∷ (ticks 2 ∷ (Asks 1 1 ∷ (ticks 10 ∷ (ClientStarts 1 0 ∷ []))))))
+twice = ServerHears 1 ∷ (ServerHears 1 ∷ (Asks 1 91 1 ∷ (ticks 2 ∷ (Asks 1 90 1 ∷ (ticks 10 ∷ (ClientStarts 1 0 ∷ []))))))
 
 abbrev pub cases : List Case
 cases =
@@ -75,13 +75,13 @@ cases =
     ∷ (record { run = ServerHears 1 ∷ (ticks 48 ∷ heard); seen = Lent 1 165 }
     -- another client asks at the server's 117: not free; at 118: free
     ∷ (record { run = ticks 105 ∷ heard; seen = Says another (Refused NoneFree) }
-    ∷ (record { run = ticks 106 ∷ heard; seen = Says another (Granted (record { client = 2; nonce = 7; address = 0 })) }
+    ∷ (record { run = ticks 106 ∷ heard; seen = Says another (Granted (record { client = 2; nonce = 70; address = 0 })) }
     -- the client crashes at 50 and asks at 51: it is lent the same
-    ∷ (record { run = ServerHears 0 ∷ (Asks 1 1 ∷ (ticks 1 ∷ (ClientStarts 1 50 ∷ (ClientCrashes 1 ∷ (ticks 38 ∷ (ClientHears 1 0 ∷ heard)))))); seen = Lent 1 156 }
-    ∷ (record { run = ClientHears 1 0 ∷ (ServerHears 0 ∷ (Asks 1 1 ∷ (ticks 1 ∷ (ClientStarts 1 50 ∷ (ClientCrashes 1 ∷ (ticks 38 ∷ (ClientHears 1 0 ∷ heard))))))); seen = Has (taken 100 0 51) }
+    ∷ (record { run = ServerHears 0 ∷ (Asks 1 92 1 ∷ (ticks 1 ∷ (ClientStarts 1 50 ∷ (ClientCrashes 1 ∷ (ticks 38 ∷ (ClientHears 1 0 ∷ heard)))))); seen = Lent 1 156 }
+    ∷ (record { run = ClientHears 1 0 ∷ (ServerHears 0 ∷ (Asks 1 92 1 ∷ (ticks 1 ∷ (ClientStarts 1 50 ∷ (ClientCrashes 1 ∷ (ticks 38 ∷ (ClientHears 1 0 ∷ heard))))))); seen = Has (taken 100 0 51) }
     -- asked twice: only the second request's grant is taken, and both have one address
     ∷ (record { run = twice; seen = Makes granted (Err NotWaiting) }
-    ∷ (record { run = twice; seen = Makes (record { client = 1; nonce = 1; address = 0 }) (Ok (taken 100 0 12)) }
+    ∷ (record { run = twice; seen = Makes (record { client = 1; nonce = 91; address = 0 }) (Ok (taken 100 0 12)) }
     ∷ (record { run = ClientHears 1 0 ∷ twice; seen = Has (taken 100 0 12) }
     ∷ (record { run = ClientHears 1 1 ∷ (ClientHears 1 0 ∷ twice); seen = Has (taken 100 0 12) } ∷ []))))))))))))
 

@@ -11,7 +11,7 @@ use Rattle.lease.specs.Premise.{AgreeClosely}
 -- at this event the server's clock gains at most `x` ticks on any client's, and loses none
 abbrev pub Gains : ℕ → Event → World → Type 0
 Gains x (Pass k f) w = (c : ℕ) → (f c ≤ k) × (k ≤ f c + x)
-Gains x (Asks d p) w = Unit
+Gains x (Asks d n p) w = Unit
 Gains x (ServerHears i) w = Unit
 Gains x (ServerHearsAndCrashes i wrote) w = Unit
 Gains x (ClientHears d i) w = Unit

@@ -12,7 +12,7 @@ use Rattle.lease.specs.Run.{Event, Pass, Asks, ServerHears, ServerHearsAndCras
 -- the client neither crashes nor starts at this event
 abbrev pub spares : ℕ → Event → Bool
 spares c (Pass k f) = true
-spares c (Asks d p) = true
+spares c (Asks d n p) = true
 spares c (ServerHears i) = true
 spares c (ServerHearsAndCrashes i wrote) = true
 spares c (ClientHears d i) = true
@@ -57,7 +57,7 @@ Agree s es = AllAlong (Near s) es
 -- a restart doesn't set the server's clock back
 abbrev pub Onward : Event → World → Type 0
 Onward (Pass k f) w = Unit
-Onward (Asks d p) w = Unit
+Onward (Asks d n p) w = Unit
 Onward (ServerHears i) w = Unit
 Onward (ServerHearsAndCrashes i wrote) w = Unit
 Onward (ClientHears d i) w = Unit

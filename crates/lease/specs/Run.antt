@@ -1,8 +1,8 @@
 -- Everything that can happen, and what the world is after it.
 -- Assumes nothing.
-use mathlib.Core.Bool.{Bool, true, false, cond, _&&_, _||_}
+use mathlib.Core.Bool.{Bool, true, false, cond, _&&_, _||_, not}
 use mathlib.Core.List.{List, [], _∷_}
-use Prim.Native.Nat.{ℕ, suc, _+_}
+use Prim.Native.Nat.{ℕ, _+_}
 use lib.Dec.{ltb}
 use Rattle.std.specs.declared.option.Option.{Option}
 use Rattle.std.specs.declared.option.Option.the-variants.{Some, None}
@@ -18,15 +18,16 @@ use Rattle.lease.specs.Settings.{Settings, life, silence}
 use Rattle.lease.specs.Table.{empty, at, leased, written}
 use Rattle.lease.specs.Choosing.{choose}
 use Rattle.lease.specs.Holding.{Holding, later, asking, taking, settled}
-use Rattle.lease.specs.World.{Message, Requests, Grants, Server, Client, World, start, knowing-nothing, isSilent, sent}
+use Rattle.lease.specs.World.{Message, Requests, Grants, Server, Client, World, start, knowing-nothing, isSilent, elem, sent}
 
 -- Pass: time passes for all at once, for the server by `k` ticks and for each client that is up by ticks of its own.
+-- Asks: with a nonce that was never drawn before; with another nobody asks.
 -- The network brings any message that was ever sent, to anybody, as often as it likes, or never: `which` counts from the newest.
 -- ServerHearsAndCrashes: the server crashes before it answers; `wrote` says whether the lease was written by then.
 -- A start or restart may come without a crash before it. `lost` says whether the server can't read its table.
 pub data Event : Type 0 where
   Pass : (k : ℕ) (ticks : ℕ → ℕ) → Event
-  Asks : (client preferred : ℕ) → Event
+  Asks : (client nonce preferred : ℕ) → Event
   ServerHears : (which : ℕ) → Event
   ServerHearsAndCrashes : (which : ℕ) (wrote : Bool) → Event
   ClientHears : (client which : ℕ) → Event
@@ -97,25 +98,25 @@ hearing term own g x = cond (x .up) (heldBy x (taking term (x .clock) own g (x .
 
 -- THE WORLD'S
 abbrev pub withServer : Server → World → World
-withServer v w = record { server = v; clients = w .clients; messages = w .messages; next = w .next }
+withServer v w = record { server = v; clients = w .clients; messages = w .messages; drawn = w .drawn }
 
 abbrev pub withClient : ℕ → Client → World → World
-withClient c x w = record { server = w .server; clients = at c x (w .clients); messages = w .messages; next = w .next }
+withClient c x w = record { server = w .server; clients = at c x (w .clients); messages = w .messages; drawn = w .drawn }
 
 abbrev pub passes : ℕ → (ℕ → ℕ) → World → World
-passes k f w = record { server = serverPasses k (w .server); clients = λ c. clientPasses (f c) (w .clients c); messages = w .messages; next = w .next }
+passes k f w = record { server = serverPasses k (w .server); clients = λ c. clientPasses (f c) (w .clients c); messages = w .messages; drawn = w .drawn }
 
-abbrev pub requested : (client preferred : ℕ) → World → World
-requested c p w =
+abbrev pub requested : (client nonce preferred : ℕ) → World → World
+requested c n p w =
     record {
       server = w .server;
-      clients = at c (asked (w .next) (w .clients c)) (w .clients);
-      messages = Requests (record { client = c; nonce = w .next; preferred = p }) ∷ w .messages;
-      next = suc (w .next);
+      clients = at c (asked n (w .clients c)) (w .clients);
+      messages = Requests (record { client = c; nonce = n; preferred = p }) ∷ w .messages;
+      drawn = n ∷ w .drawn;
     }
 
-abbrev pub asks : (client preferred : ℕ) → World → World
-asks c p w = cond (w .clients c .up) (requested c p w) w
+abbrev pub asks : (client nonce preferred : ℕ) → World → World
+asks c n p w = cond (w .clients c .up && not (elem n (w .drawn))) (requested c n p w) w
 
 -- what the server answers is sent
 abbrev pub replies : Answer → List Message → List Message
@@ -124,7 +125,7 @@ replies (Granted g) ms = Grants g ∷ ms
 replies (Refused f) ms = ms
 
 abbrev pub replied : Settings → Answer → World → World
-replied s x w = record { server = serves s x (w .server); clients = w .clients; messages = replies x (w .messages); next = w .next }
+replied s x w = record { server = serves s x (w .server); clients = w .clients; messages = replies x (w .messages); drawn = w .drawn }
 
 abbrev pub serverHears : Settings → Option Message → World → World
 serverHears s None w = w
@@ -138,7 +139,7 @@ clientHears s c (Some (Grants g)) w = withClient c (settled (w .clients c) (hear
 
 abbrev pub step : Settings → Event → World → World
 step s (Pass k f) w = passes k f w
-step s (Asks c p) w = asks c p w
+step s (Asks c n p) w = asks c n p w
 step s (ServerHears i) w = serverHears s (sent i (w .messages)) w
 step s (ServerHearsAndCrashes i wrote) w = withServer (crashes (cond wrote (serverHears s (sent i (w .messages)) w .server) (w .server))) w
 step s (ClientHears c i) w = clientHears s c (sent i (w .messages)) w

@@ -19,11 +19,11 @@ exact = record { addresses = 1; term = 60; skew = 0 }
 
 -- two clients start, and the first has the address
 abbrev pub lent : List Event
-lent = askedAndHeard 1 1 (ClientStarts 2 0 ∷ (ClientStarts 1 0 ∷ []))
+lent = askedAndHeard 1 70 1 (ClientStarts 2 0 ∷ (ClientStarts 1 0 ∷ []))
 
 -- with no skew at all the lease expires, and its address is lent on
 abbrev pub lentOn : List Event
-lentOn = askedAndHeard 2 1 (ticks 61 ∷ lent)
+lentOn = askedAndHeard 2 80 1 (ticks 61 ∷ lent)
 
 pub record LentOn : Type 0 where
   pub premise : AgreeClosely exact lentOn
@@ -48,7 +48,7 @@ abbrev pub quiet : List Event
 quiet = ticks 110 ∷ lost
 
 abbrev pub lentAnew : List Event
-lentAnew = askedAndHeard 2 1 (ticks 1 ∷ quiet)
+lentAnew = askedAndHeard 2 80 1 (ticks 1 ∷ quiet)
 
 pub record LentAnew : Type 0 where
   pub premise : AgreeClosely single lentAnew
@@ -59,7 +59,7 @@ pub record LentAnew : Type 0 where
 -- a client asks again every 60 ticks
 unfoldable pub renewed : ℕ → List Event
 renewed zero = lent
-renewed (suc n) = askedAndHeard 1 1 (ticks 60 ∷ renewed n)
+renewed (suc n) = askedAndHeard 1 n 1 (ticks 60 ∷ renewed n)
 
 -- and keeps its address, long after the first lease would have ended
 pub record Renewed : Type 0 where
