@@ -35,6 +35,12 @@ impl Keeper {
         self.clock
     }
 
+    pub fn settings(&self) -> Settings
+        ensures { λ r. ⌜ r ≡ now (self .entry) .settings ⌝ }
+    {
+        self.settings
+    }
+
     // Time passes, also while it is down; a silence ends only while it is up.
     pub fn pass(&mut self, ticks: u64) -> Result<(), Fault>
         ensures { λ r. ⌜ KeeperPassed r ticks (now (self .entry)) (now (self .exit)) ⌝ }
