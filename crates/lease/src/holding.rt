@@ -85,33 +85,26 @@ impl Holding {
         if clock.ticks > until {
             return Err(Fault::TooLate);
         }
-        Ok(Holding::Using(Use {
+        let using = Use {
             address: grant.address,
             until,
-        }))
+        };
+        Ok(Holding::Using(using))
     }
 
     // The clock shows `clock` now: an address whose time is over is used no more.
     pub fn tick(self, clock: Clock) -> Holding
         ensures { λ r. ⌜ holdingOf r ≡ laterHeld (clock .ticks) (holdingOf self) ⌝ }
     {
-        match self {
-            Holding::Nothing => self,
-            Holding::Waiting(_) => self,
-            Holding::Using(using) => {
-                if clock.ticks > using.until {
-                    Holding::Nothing
-                } else {
-                    self
-                }
-            }
-            Holding::UsingAndWaiting(using, wait) => {
-                if clock.ticks > using.until {
-                    Holding::Waiting(wait)
-                } else {
-                    self
-                }
-            }
+        let Some(using) = self.in_use() else {
+            return self;
+        };
+        if clock.ticks <= using.until {
+            return self;
+        }
+        match self.waiting() {
+            None => Holding::Nothing,
+            Some(wait) => Holding::Waiting(wait),
         }
     }
 
