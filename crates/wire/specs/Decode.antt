@@ -62,7 +62,7 @@ judged-by Tool n m = Ok m
 abbrev pub judged : Reader → Option ℕ → Message → Answer
 judged reader n m = cond (takes reader (kind m)) (judged-by reader n m) (Err Malformed)
 
-abbrev answered : Reader → Option ℕ → Option Message → Answer
+abbrev pub answered : Reader → Option ℕ → Option Message → Answer
 answered reader n None = Err Malformed
 answered reader n (Some m) = judged reader n m
 

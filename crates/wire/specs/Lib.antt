@@ -1,6 +1,9 @@
 pub mod Decode
+pub mod Frame
 pub mod Kind
 pub mod Message
 pub mod Numbers
 pub mod Read
 pub mod Reader
+pub mod Stream
+pub mod Laws

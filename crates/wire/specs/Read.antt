@@ -42,7 +42,7 @@ fields-at InUse bs = Some (m.InUse (be2 bs 1) (be8 bs 3))
 fields-at NoAddress bs = Some m.NoAddress
 fields-at Fault bs = mapped m.Fault (fault-of (getD bs 1 0))
 
-abbrev read-as : Option Kind → List ℕ → Option Message
+abbrev pub read-as : Option Kind → List ℕ → Option Message
 read-as None bs = None
 read-as (Some k) bs = cond (eqb (length bs) (table k .size)) (fields-at k bs) None
 

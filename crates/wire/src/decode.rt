@@ -92,7 +92,7 @@ fn read(bytes: &[u8]) -> Option<Message>
     let Some(kind) = Kind::numbered(bytes[0]) else {
         return None;
     };
-    if bytes.len() != kind.size() {
+    if bytes.len() != usize::from(kind.size()) {
         return None;
     }
     fields(kind, bytes)

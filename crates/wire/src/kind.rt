@@ -57,7 +57,7 @@ impl Kind {
     }
 
     // How many bytes a message of this kind has.
-    pub fn size(self) -> usize
+    pub fn size(self) -> u8
         ensures { λ r. ⌜ r ≡ table self .size ⌝ }
     {
         match self {

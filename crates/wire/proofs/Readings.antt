@@ -1,0 +1,71 @@
+-- Messages and their bytes.
+use mathlib.Core.List.{List, [], _∷_, _++_}
+use mathlib.Core.Path.{_≡_, refl, sym, ap, ap₂, _∙_}
+use Prim.Native.Nat.{ℕ, zero, suc, _+_, _<_, _≤_}
+use native.Mathlib.Omega.{arith}
+use lib.Dec.{eqb}
+use lib.ListN.{length, getD, take, length-append}
+use Rattle.std.proofs.shelf.Lists.{length-take-le}
+use Rattle.std.proofs.shelf.Tests.{cond-false, ne-eqb}
+use Rattle.std.specs.declared.option.Option.{Option}
+use Rattle.std.specs.declared.option.Option.the-variants.{Some, None}
+use Rattle.std.specs.declared.result.Result.the-variants.{Ok, Err}
+use Rattle.lease.specs.declared.fault.Fault as lease
+use Rattle.lease.specs.declared.fault.Fault.the-variants.{Malformed, BadAddress, OtherClient, NotWaiting, TooLate, NoneFree, BadSettings, TableLost, CountExhausted}
+use Rattle.lease.specs.Fault as fault
+use Rattle.wire.specs.declared.kind.Kind.{Kind}
+use Rattle.wire.specs.declared.kind.Kind.the-variants as k
+use Rattle.wire.specs.declared.message.Message.{Message}
+use Rattle.wire.specs.declared.message.Message.the-variants.{Request, Grant, Settings, Tick, Crash, Restart, OwnNumber, Nonce, InUse, NoAddress, Fault}
+use Rattle.wire.specs.declared.reader.Reader.{Reader}
+use Rattle.wire.specs.Decode.{answered, decoded, judged}
+use Rattle.wire.specs.Kind.{table, kind-of}
+use Rattle.wire.specs.Laws.{Fits, Unmistakable}
+use Rattle.wire.specs.Message.{kind, fields, encoded}
+use Rattle.wire.specs.Numbers.{be2, be4, be8, bytes2, bytes4, bytes8}
+use Rattle.wire.specs.Read.{read, read-as, fields-at, fault-of}
+use Rattle.wire.proofs.Digits.{back2, back4, back8}
+
+fault-back : (f : lease.Fault) → fault-of (fault.number f) ≡ Some f
+fault-back Malformed = refl
+fault-back BadAddress = refl
+fault-back OtherClient = refl
+fault-back NotWaiting = refl
+fault-back TooLate = refl
+fault-back NoneFree = refl
+fault-back BadSettings = refl
+fault-back TableLost = refl
+fault-back CountExhausted = refl
+
+read-encoded : (m : Message) → Fits m → read (encoded m) ≡ Some m
+unfolding bytes2 bytes4 bytes8
+read-encoded (Request r) h =
+    let P : ℕ → ℕ → ℕ → Option Message = λ a b c. Some (Request (record { client = a; nonce = b; preferred = c })) in
+    ap₂ (λ (a b : ℕ). P a b (be2 (bytes2 (r .preferred)) 0)) (back4 (r .client) (h .0)) (back8 (r .nonce) (h .1)) ∙ ap (P (r .client) (r .nonce)) (back2 (r .preferred) (h .2))
+read-encoded (Grant g) h =
+    let P : ℕ → ℕ → ℕ → Option Message = λ a b c. Some (Grant (record { client = a; nonce = b; address = c })) in
+    ap₂ (λ (a b : ℕ). P a b (be2 (bytes2 (g .address)) 0)) (back4 (g .client) (h .0)) (back8 (g .nonce) (h .1)) ∙ ap (P (g .client) (g .nonce)) (back2 (g .address) (h .2))
+read-encoded (Settings addresses term skew) h =
+    let P : ℕ → ℕ → ℕ → Option Message = λ a b c. Some (Settings a b c) in
+    ap₂ (λ (a b : ℕ). P a b (be2 (bytes2 skew) 0)) (back2 addresses (h .0)) (back4 term (h .1)) ∙ ap (P addresses term) (back2 skew (h .2))
+read-encoded Tick h = refl
+read-encoded Crash h = refl
+read-encoded (Restart clock) h = ap (λ (a : ℕ). Some (Restart a)) (back8 clock h)
+read-encoded (OwnNumber client) h = ap (λ (a : ℕ). Some (OwnNumber a)) (back4 client h)
+read-encoded (Nonce nonce) h = ap (λ (a : ℕ). Some (Nonce a)) (back8 nonce h)
+read-encoded (InUse address until) h = ap₂ (λ (a b : ℕ). Some (InUse a b)) (back2 address (h .0)) (back8 until (h .1))
+read-encoded NoAddress h = refl
+read-encoded (Fault f) h = ?
+
+kind-back : (x : Kind) → kind-of (table x .number) ≡ Some x
+kind-back k.Request = refl
+kind-back k.Grant = refl
+kind-back k.Settings = refl
+kind-back k.Tick = refl
+kind-back k.Crash = refl
+kind-back k.Restart = refl
+kind-back k.OwnNumber = refl
+kind-back k.Nonce = refl
+kind-back k.InUse = refl
+kind-back k.NoAddress = refl
+kind-back k.Fault = refl

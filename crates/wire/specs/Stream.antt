@@ -1,0 +1,43 @@
+-- Messages one after the other, each with its length before it.
+-- Assumes nothing: what a message's bytes say does not matter here.
+use mathlib.Core.Bool.{Bool, true, false, cond}
+use mathlib.Core.List.{List, [], _∷_, _++_}
+use mathlib.Core.Path.{_≡_}
+use Prim.Native.Nat.{ℕ, zero, suc, _≤_, _<_}
+use lib.Dec.{ltb}
+use lib.ListN.{length, getD, take, drop}
+use Rattle.wire.specs.declared.stream.Next.{Next}
+use Rattle.wire.specs.declared.stream.Next.the-variants.{Message, End, Cut}
+
+abbrev pub framed : List ℕ → List ℕ
+framed m = length m ∷ m
+
+-- a stream's messages, and whether it ends within one more
+pub record Held : Type 0 where
+  pub messages : List (List ℕ)
+  pub cut : Bool
+
+abbrev pub none : Held
+none = record { messages = []; cut = false }
+
+abbrev pub broken : Held
+broken = record { messages = []; cut = true }
+
+abbrev pub after : List ℕ → Held → Held
+after m h = record { messages = m ∷ h .messages; cut = h .cut }
+
+-- by at most so many messages
+unfoldable pub held-by : ℕ → List ℕ → Held
+held-by turns [] = none
+held-by zero (n ∷ bs) = broken
+held-by (suc turns) (n ∷ bs) = cond (ltb (length bs) n) broken (after (take n bs) (held-by turns (drop n bs)))
+
+-- each message takes a byte at least
+unfoldable pub held : List ℕ → Held
+held bs = held-by (length bs) bs
+
+-- what a stream begins with, and what it holds then
+abbrev pub Reads : List ℕ → Next → Type 0
+Reads s (Message bytes rest) = (s ≡ framed (bytes .now) ++ rest .now) × (held s ≡ after (bytes .now) (held (rest .now)))
+Reads s End = (s ≡ []) × (held s ≡ none)
+Reads s Cut = (0 < length s) × (length s ≤ getD s 0 0) × (held s ≡ broken)
