@@ -1,3 +1,4 @@
 pub mod Digits
+pub mod Exactness
 pub mod Readings
 pub mod Streams

@@ -10,6 +10,7 @@ use Rattle.std.proofs.shelf.Tests.{cond-false, ne-eqb}
 use Rattle.std.specs.declared.option.Option.{Option}
 use Rattle.std.specs.declared.option.Option.the-variants.{Some, None}
 use Rattle.std.specs.declared.result.Result.the-variants.{Ok, Err}
+use Rattle.std.specs.Options.{mapped}
 use Rattle.lease.specs.declared.fault.Fault as lease
 use Rattle.lease.specs.declared.fault.Fault.the-variants.{Malformed, BadAddress, OtherClient, NotWaiting, TooLate, NoneFree, BadSettings, TableLost, CountExhausted}
 use Rattle.lease.specs.Fault as fault
@@ -55,7 +56,7 @@ read-encoded (OwnNumber client) h = ap (λ (a : ℕ). Some (OwnNumber a)) (back4
 read-encoded (Nonce nonce) h = ap (λ (a : ℕ). Some (Nonce a)) (back8 nonce h)
 read-encoded (InUse address until) h = ap₂ (λ (a b : ℕ). Some (InUse a b)) (back2 address (h .0)) (back8 until (h .1))
 read-encoded NoAddress h = refl
-read-encoded (Fault f) h = ?
+read-encoded (Fault f) h = ap (mapped Fault) (fault-back f)
 
 kind-back : (x : Kind) → kind-of (table x .number) ≡ Some x
 kind-back k.Request = refl
@@ -69,3 +70,46 @@ kind-back k.Nonce = refl
 kind-back k.InUse = refl
 kind-back k.NoAddress = refl
 kind-back k.Fault = refl
+
+sized : (m : Message) → length (encoded m) ≡ table (kind m) .size
+unfolding bytes2 bytes4 bytes8
+sized (Request r) = refl
+sized (Grant g) = refl
+sized (Settings addresses term skew) = refl
+sized Tick = refl
+sized Crash = refl
+sized (Restart clock) = refl
+sized (OwnNumber client) = refl
+sized (Nonce nonce) = refl
+sized (InUse address until) = refl
+sized NoAddress = refl
+sized (Fault f) = refl
+
+-- a kind's number before a body of another length than the kind's
+misfit : (x : Kind) (bs : List ℕ) → (suc (length bs) ≡ table x .size → ⊥) → read (table x .number ∷ bs) ≡ None
+misfit x bs ne =
+    let all : List ℕ = table x .number ∷ bs in
+    ap (λ (o : Option Kind). read-as o all) (kind-back x) ∙ cond-false (eqb (suc (length bs)) (table x .size)) (fields-at x all) None (ne-eqb (suc (length bs)) (table x .size) ne)
+
+shortened : (m : Message) (n : ℕ) → n < length (encoded m) → read (take n (encoded m)) ≡ None
+shortened m zero h = refl
+shortened m (suc n) h =
+    let l : length (take n (fields m)) ≡ n = length-take-le n (fields m) (omega arith) in
+    misfit (kind m) (take n (fields m)) (λ e. let s = sized m in omega arith)
+
+lengthened : (m : Message) (b : ℕ) (bs : List ℕ) → read (encoded m ++ b ∷ bs) ≡ None
+lengthened m b bs =
+    let l = length-append (fields m) (b ∷ bs) in
+    misfit (kind m) (fields m ++ b ∷ bs) (λ e. let s = sized m in omega arith)
+
+same-message : (a b : Message) → Some a ≡ Some b → a ≡ b
+same-message a b e = cc
+
+pub unmistakable : (m : Message) → Fits m → Unmistakable m
+unmistakable m h =
+    record {
+      read-back = λ reader n. ap (answered reader n) (read-encoded m h);
+      alone = λ other f e. same-message other m (sym (read-encoded other f) ∙ (ap read e ∙ read-encoded m h));
+      cut-short = λ reader n i l. ap (answered reader n) (shortened m i l);
+      run-on = λ reader n b bs. ap (answered reader n) (lengthened m b bs);
+    }

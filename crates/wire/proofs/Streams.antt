@@ -9,6 +9,7 @@ use lib.ListN.{length, take, drop, length-drop, length-append}
 use Rattle.std.proofs.shelf.Lists.{take-at, drop-at, append-assoc}
 use Rattle.std.proofs.shelf.Tests.{cond-true, cond-false, lt-ltb, le-ltb}
 use Rattle.std.specs.Joined.{joined}
+use Rattle.wire.specs.Laws.{Delivered}
 use Rattle.wire.specs.Stream.{framed, Held, none, broken, after, held, held-by}
 
 -- more turns than bytes change nothing
@@ -38,3 +39,8 @@ pub held-cut : (n : ℕ) (bs : List ℕ) → length bs < n → held (n ∷ bs) �
 unfolding held held-by
 held-cut n bs h =
     cond-true (ltb (length bs) n) broken (after (take n bs) (held-by (length bs) (drop n bs))) (lt-ltb (length bs) n h)
+
+pub delivered : Delivered
+delivered [] tail = refl
+delivered (m ∷ ms) tail =
+    ap held (append-assoc (framed m) (joined framed ms) tail) ∙ (held-first m (joined framed ms ++ tail) ∙ ap (after m) (delivered ms tail))

@@ -20,7 +20,7 @@ use Rattle.wire.specs.Message.{kind}
 use Rattle.wire.specs.Read.{read}
 use Rattle.wire.specs.Reader.{takes}
 
-abbrev Answer : Type 0
+abbrev pub Answer : Type 0
 Answer = Result Message fault.Fault
 
 -- how many addresses the pool has, as far as settings are known
@@ -29,12 +29,12 @@ pool None = None
 pool (Some s) = Some (s .addresses)
 
 -- a message that names an address is judged by the pool, which has to be known
-abbrev addressed : Option ℕ → (ℕ → Bool) → Message → Answer
+abbrev pub addressed : Option ℕ → (ℕ → Bool) → Message → Answer
 addressed None admits m = Err BadSettings
 addressed (Some n) admits m = cond (admits n) (Ok m) (Err BadAddress)
 
 -- settings are given once
-abbrev given : Option ℕ → Bool → Message → Answer
+abbrev pub given : Option ℕ → Bool → Message → Answer
 given None good m = cond good (Ok m) (Err BadSettings)
 given (Some n) good m = Err BadSettings
 

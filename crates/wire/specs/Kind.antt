@@ -33,10 +33,10 @@ table InUse = row 16 11 false false true
 table NoAddress = row 17 1 false false true
 table Fault = row 18 2 false false true
 
-abbrev kinds : List Kind
+abbrev pub kinds : List Kind
 kinds = Request ∷ Grant ∷ Settings ∷ Tick ∷ Crash ∷ Restart ∷ OwnNumber ∷ Nonce ∷ InUse ∷ NoAddress ∷ Fault ∷ []
 
-abbrev numbered : ℕ → List Kind → Option Kind
+abbrev pub numbered : ℕ → List Kind → Option Kind
 numbered n [] = None
 numbered n (k ∷ ks) = cond (eqb n (table k .number)) (Some k) (numbered n ks)
 

@@ -1,6 +1,7 @@
 ghost use mathlib.Core.Path.{_≡_};
 ghost use lib.ListN.{length};
 ghost use Rattle.wire.specs.Decode.{decoded, judged, pool, received as receives};
+ghost use Rattle.wire.specs.Laws.{Exact};
 ghost use Rattle.wire.specs.Read.{fault-of, fields-at, read as reads};
 ghost use Rattle.wire.specs.Kind.{table};
 use crate::kind::Kind;
@@ -154,7 +155,8 @@ impl Message {
         settings: Option<Settings>,
         bytes: &[u8],
     ) -> Result<Message, Fault>
-        ensures { λ r. ⌜ r ≡ decoded reader (pool settings) (now (bytes .entry)) ⌝ }
+        ensures value { λ r. ⌜ r ≡ decoded reader (pool settings) (now (bytes .entry)) ⌝ }
+        ensures exact { λ _. ⌜ Exact reader (pool settings) (now (bytes .entry)) ⌝ }
     {
         let Some(message) = read(bytes) else {
             return Err(Fault::Malformed);

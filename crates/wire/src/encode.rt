@@ -6,6 +6,7 @@ ghost use lib.ListN.{length};
 ghost use Rattle.std.specs.Of.Vec.{vec-items, vec-len, vec-cap};
 ghost use Rattle.std.specs.Results.{isOk};
 ghost use Rattle.wire.specs.Frame.{shown};
+ghost use Rattle.wire.specs.Laws.{Fits, Unmistakable};
 ghost use Rattle.wire.specs.Message.{encoded};
 ghost use Rattle.wire.specs.Stream.{framed};
 use crate::frame::Frame;
@@ -43,6 +44,25 @@ fn frame(message: Message) -> Frame
     }
 }
 
+// Every message's fields fit their widths, as their types say.
+fn fits(message: Message)
+    ensures { λ _. ⌜ Fits message ⌝ }
+{
+    match message {
+        Message::Request(_) => {}
+        Message::Grant(_) => {}
+        Message::Settings { .. } => {}
+        Message::Tick => {}
+        Message::Crash => {}
+        Message::Restart { .. } => {}
+        Message::OwnNumber { .. } => {}
+        Message::Nonce { .. } => {}
+        Message::InUse { .. } => {}
+        Message::NoAddress => {}
+        Message::Fault(_) => {}
+    }
+}
+
 impl Message {
     // Appends the message's bytes, with their length before them; without the memory for it, nothing.
     pub fn encode(self, out: &mut Vec<u8>) -> Result<(), AllocError>
@@ -51,7 +71,9 @@ impl Message {
         ensures capacity { λ r. ⌜ vec-cap (now (out .entry)) ≤ vec-cap (now (out .exit)) ⌝ }
         ensures succeeds { λ r. ⌜ (vec-len (now (out .entry)) + length (framed (encoded self)) ≤ vec-cap (now (out .entry)) → isOk r ≡ true) ⌝ }
         ensures bound { λ _. ⌜ length (framed (encoded self)) ≤ 16 ⌝ }
+        ensures unmistakable { λ _. ⌜ Unmistakable self ⌝ }
     {
+        fits(self);
         let frame = frame(self);
         let len = frame.len;
         out.extend_from_slice(&frame.bytes[0..len])

@@ -1,3 +1,4 @@
+ghost use Rattle.wire.specs.Laws.{Delivered};
 ghost use Rattle.wire.specs.Stream.{Reads};
 
 // What a stream of messages, each with its length before it, begins with.
@@ -12,7 +13,8 @@ pub enum Next<'a> {
 
 // The next message of a stream, whatever it holds.
 pub fn next_message(stream: &[u8]) -> Next<'_>
-    ensures { λ r. ⌜ Reads (now (stream .entry)) r ⌝ }
+    ensures reads { λ r. ⌜ Reads (now (stream .entry)) r ⌝ }
+    ensures delivered { λ _. ⌜ Delivered ⌝ }
 {
     if stream.is_empty() {
         return Next::End;

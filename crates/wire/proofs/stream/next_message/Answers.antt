@@ -8,14 +8,14 @@ use Rattle.std.proofs.shelf.Parts.{first-rest}
 use Rattle.std.proofs.shelf.Tests.{eqb-true, eqb-false}
 use Rattle.std.specs.Holes.{between}
 use Rattle.wire.specs.Stream.{held, framed}
-use Rattle.wire.proofs.Streams.{held-none, held-first, held-cut}
+use Rattle.wire.proofs.Streams.{delivered, held-none, held-first, held-cut}
 use Rattle.wire.proofs.stream.next_message.Needs as need
 
 pub returns-then-is-empty : need.returns-then-is-empty
 returns-then-is-empty c =
     let s : List ℕ = c .args .stream .now in
     let e : s ≡ [] = nil-from-length s (eqb-true (length s) 0 (sym (c .if-is-empty .ensures tt))) in
-    (e, ap held e ∙ held-none)
+    record { reads = (e, ap held e ∙ held-none); delivered = delivered }
 
 pub returns-then-after-size : need.returns-then-after-size
 returns-then-after-size c =
@@ -24,7 +24,7 @@ returns-then-after-size c =
     let some : 0 < length s = omega (arith, eqb-false (length s) 0 (sym (c .if-is-empty .ensures tt))) in
     let e : s ≡ getD s 0 0 ∷ rest = first-rest s 0 some in
     let short : length rest < getD s 0 0 = omega arith in
-    (some, omega (arith, ap length e), ap held e ∙ held-cut (getD s 0 0) rest short)
+    record { reads = (some, omega (arith, ap length e), ap held e ∙ held-cut (getD s 0 0) rest short); delivered = delivered }
 
 pub returns : need.returns
 returns c =
@@ -36,4 +36,4 @@ returns c =
     first-rest s 0 some
     ∙ ap₂ (λ (n : ℕ) (l : List ℕ). n ∷ l) (sym (c .split-at .ensures .front-len ∙ c .from-size .ensures)) (c .split-at .ensures .places .0)
     in
-    (e, ap held e ∙ held-first bytes rest)
+    record { reads = (e, ap held e ∙ held-first bytes rest); delivered = delivered }
