@@ -1,11 +1,10 @@
 -- A number's bytes say the number, and the bytes that say a number are its own.
 use mathlib.Core.List.{List, [], _∷_, _++_}
 use mathlib.Core.Path.{_≡_, refl, sym, ap, ap₂, _∙_}
-use Prim.Native.Nat.{ℕ, _+_, _*_, _/_, _%_, _^_, _<_, _≤_}
+use Prim.Native.Nat.{ℕ, _+_, _*_, _/_, _%_, _^_, _<_}
 use native.Mathlib.Nat.{div-div-eq-div-mul}
 use native.Mathlib.Omega.{arith}
-use lib.ListN.{length, getD, drop}
-use Rattle.std.proofs.shelf.Lists.{drop-more}
+use lib.ListN.{getD}
 use Rattle.wire.specs.Numbers.{be2, be4, be8, bytes2, bytes4, bytes8}
 
 -- the four lowest digits of n, and what is above them

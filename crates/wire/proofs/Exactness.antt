@@ -1,36 +1,36 @@
 -- A byte string that is read as a message is that message's own.
-use mathlib.Core.Bool.{Bool, true, false, cond}
+use mathlib.Core.Bool.{cond}
 use mathlib.Core.List.{List, [], _∷_, _++_}
 use mathlib.Core.Path.{_≡_, refl, sym, ap, ap₂, _∙_}
-use Prim.Native.Nat.{ℕ, zero, suc, _+_, _<_, _≤_}
+use Prim.Native.Nat.{ℕ, zero, suc, _+_}
 use native.Mathlib.Omega.{arith}
-use lib.Dec.{eqb, ltb, leb}
+use lib.Dec.{eqb}
 use lib.ListN.{length, getD, drop}
 use Rattle.std.proofs.shelf.Lists.{drop-all, drop-more}
 use Rattle.std.proofs.shelf.Tests.{cond-both, eqb-true}
 use Rattle.std.specs.declared.option.Option.{Option}
 use Rattle.std.specs.declared.option.Option.the-variants.{Some, None}
-use Rattle.std.specs.declared.result.Result.the-variants.{Ok, Err}
+use Rattle.std.specs.declared.result.Result.the-variants.{Ok}
 use Rattle.std.specs.Options.{mapped}
 use Rattle.lease.specs.declared.fault.Fault as lease
-use Rattle.lease.specs.declared.fault.Fault.the-variants.{Malformed, BadAddress, BadSettings}
+use Rattle.lease.specs.declared.fault.Fault.the-variants.{Malformed}
 use Rattle.lease.specs.Fault as fault
-use Rattle.lease.specs.Settings.{valid}
 use Rattle.wire.specs.declared.kind.Kind.{Kind}
 use Rattle.wire.specs.declared.kind.Kind.the-variants as k
 use Rattle.wire.specs.declared.message.Message.{Message}
-use Rattle.wire.specs.declared.message.Message.the-variants.{Request, Grant, Settings, Tick, Crash, Restart, OwnNumber, Nonce, InUse, NoAddress, Fault}
+use Rattle.wire.specs.declared.message.Message.the-variants.{Fault}
 use Rattle.wire.specs.declared.reader.Reader.{Reader}
-use Rattle.wire.specs.declared.reader.Reader.the-variants.{Server, Client, Tool}
-use Rattle.wire.specs.Decode.{Answer, addressed, answered, decoded, given, judged, judged-by, received}
+use Rattle.wire.specs.Decode.{answered, decoded}
 use Rattle.wire.specs.Kind.{table, kind-of, kinds, numbered}
-use Rattle.wire.specs.Laws.{Exact}
+use Rattle.wire.specs.Laws.{Taken}
+use Rattle.wire.specs.Meant.{Meant}
 use Rattle.wire.specs.Message.{kind, encoded}
-use Rattle.wire.specs.Numbers.{be2, be4, be8, bytes2, bytes4, bytes8}
+use Rattle.wire.specs.Numbers.{be8, bytes8}
 use Rattle.wire.specs.Read.{read, read-as, fields-at, fault-of, faults}
 use Rattle.wire.specs.Read as reading
-use Rattle.wire.specs.Reader.{takes}
 use Rattle.wire.proofs.Digits.{Bytes, own2, own4, own8}
+use Rattle.wire.proofs.Judgement.{by-judgement, refusal}
+use Rattle.wire.proofs.Readings.{same-message}
 
 same-kind : (a b : Kind) → Some a ≡ Some b → a ≡ b
 same-kind a b e = cc
@@ -56,9 +56,6 @@ listed bs i (suc n) = getD bs i 0 ∷ listed bs (i + 1) n
 elements : (bs : List ℕ) (i n : ℕ) → i + n ≡ length bs → drop i bs ≡ listed bs i n
 elements bs i zero e = drop-all i bs (omega arith)
 elements bs i (suc n) e = drop-more bs i 0 (omega arith) ∙ ap (λ (l : List ℕ). getD bs i 0 ∷ l) (elements bs (i + 1) n (omega arith))
-
-same-message : (a b : Message) → Some a ≡ Some b → a ≡ b
-same-message a b e = cc
 
 abbrev cons : ℕ → List ℕ → List ℕ
 cons n l = n ∷ l
@@ -97,50 +94,12 @@ by-kind None bs e b m h = absurd (let z : _≡_ {A = ℕ} 0 1 = cc in omega arit
 by-kind (Some x) bs e b m h =
     cond-both (eqb (length bs) (table x .size)) (fields-at x bs) None (λ q. q ≡ Some m → bs ≡ encoded m) (λ t f. by-fields x bs b (eqb-true (length bs) (table x .size) t) (kind-numbered (getD bs 0 0) kinds x e) m f) (λ t f. absurd (let z : _≡_ {A = ℕ} 0 1 = cc in omega arith)) h
 
--- whoever judges a message, it stays the same
-unchanged : (a b : Message) → _≡_ {A = Answer} (Ok a) (Ok b) → a ≡ b
-unchanged a b e = cc
-
-refusal : (f : lease.Fault) (b : Message) → _≡_ {A = Answer} (Err f) (Ok b) → ⊥
-refusal f b e = let z : _≡_ {A = ℕ} 0 1 = cc in omega arith
-
-tested : (t : Bool) (f : lease.Fault) (a b : Message) → _≡_ {A = Answer} (cond t (Ok a) (Err f)) (Ok b) → a ≡ b
-tested true f a b e = unchanged a b e
-tested false f a b e = absurd (refusal f b e)
-
-by-address : (n : Option ℕ) (admits : ℕ → Bool) (a b : Message) → addressed n admits a ≡ Ok b → a ≡ b
-by-address None admits a b e = absurd (refusal BadSettings b e)
-by-address (Some n) admits a b e = tested (admits n) BadAddress a b e
-
-by-settings : (n : Option ℕ) (good : Bool) (a b : Message) → given n good a ≡ Ok b → a ≡ b
-by-settings None good a b e = tested good BadSettings a b e
-by-settings (Some n) good a b e = absurd (refusal BadSettings b e)
-
-by-receiver : (n : Option ℕ) (a b : Message) → received n a ≡ Ok b → a ≡ b
-by-receiver n (Request r) b e = by-address n (λ size. leb (r .preferred) size) (Request r) b e
-by-receiver n (Grant g) b e = by-address n (λ size. ltb (g .address) size) (Grant g) b e
-by-receiver n (Settings addresses term skew) b e = by-settings n (valid addresses term skew) (Settings addresses term skew) b e
-by-receiver n Tick b e = unchanged Tick b e
-by-receiver n Crash b e = unchanged Crash b e
-by-receiver n (Restart clock) b e = unchanged (Restart clock) b e
-by-receiver n (OwnNumber client) b e = unchanged (OwnNumber client) b e
-by-receiver n (Nonce nonce) b e = unchanged (Nonce nonce) b e
-by-receiver n (InUse address until) b e = unchanged (InUse address until) b e
-by-receiver n NoAddress b e = unchanged NoAddress b e
-by-receiver n (Fault f) b e = unchanged (Fault f) b e
-
-by-reader : (reader : Reader) (n : Option ℕ) (a b : Message) → judged-by reader n a ≡ Ok b → a ≡ b
-by-reader Server n a b e = by-receiver n a b e
-by-reader Client n a b e = by-receiver n a b e
-by-reader Tool n a b e = unchanged a b e
-
-by-judgement : (reader : Reader) (n : Option ℕ) (a b : Message) → judged reader n a ≡ Ok b → a ≡ b
-by-judgement reader n a b e =
-    cond-both (takes reader (kind a)) (judged-by reader n a) (Err Malformed) (λ q. q ≡ Ok b → a ≡ b) (λ t f. by-reader reader n a b f) (λ t f. absurd (refusal Malformed b f)) e
-
-by-answer : (reader : Reader) (n : Option ℕ) (o : Option Message) (m : Message) → answered reader n o ≡ Ok m → o ≡ Some m
+by-answer : (reader : Reader) (n : Option ℕ) (o : Option Message) (m : Message) → answered reader n o ≡ Ok m → (o ≡ Some m) × Meant reader n m
 by-answer reader n None m e = absurd (refusal Malformed m e)
-by-answer reader n (Some a) m e = ap (λ (x : Message). Some x) (by-judgement reader n a m e)
+by-answer reader n (Some a) m e = by-judgement reader n a m e
 
-pub exact : (reader : Reader) (n : Option ℕ) (bs : List ℕ) → Bytes bs → Exact reader n bs
-exact reader n bs b m e = by-kind (kind-of (getD bs 0 0)) bs refl b m (by-answer reader n (read bs) m e)
+pub exact : (reader : Reader) (n : Option ℕ) (bs : List ℕ) → Bytes bs → (m : Message) → decoded reader n bs ≡ Ok m → Taken reader n bs m
+unfolding read
+exact reader n bs b m e =
+    let (is, meant) = by-answer reader n (read bs) m e in
+    record { own-bytes = by-kind (kind-of (getD bs 0 0)) bs refl b m is; meant = meant }

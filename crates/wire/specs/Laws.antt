@@ -1,11 +1,10 @@
 -- Why a message's bytes cannot be mistaken: they are read back as the message, no other message has them, and neither a part of them nor more than them is read as any.
 -- Assumes that the fields fit their widths, as those of every value of the program do.
-use mathlib.Core.List.{List, [], _∷_, _++_}
+use mathlib.Core.List.{List, _∷_, _++_}
 use mathlib.Core.Path.{_≡_}
 use Prim.Native.Nat.{ℕ, _^_, _<_}
-use lib.ListN.{length, getD, take}
+use lib.ListN.{length, take}
 use Rattle.std.specs.declared.option.Option.{Option}
-use Rattle.std.specs.declared.option.Option.the-variants.{Some}
 use Rattle.std.specs.declared.result.Result.the-variants.{Ok, Err}
 use Rattle.std.specs.Joined.{joined}
 use Rattle.lease.specs.declared.fault.Fault.the-variants.{Malformed}
@@ -13,6 +12,7 @@ use Rattle.wire.specs.declared.message.Message.{Message}
 use Rattle.wire.specs.declared.message.Message.the-variants.{Request, Grant, Settings, Tick, Crash, Restart, OwnNumber, Nonce, InUse, NoAddress, Fault}
 use Rattle.wire.specs.declared.reader.Reader.{Reader}
 use Rattle.wire.specs.Decode.{decoded, judged}
+use Rattle.wire.specs.Meant.{Meant}
 use Rattle.wire.specs.Message.{encoded}
 use Rattle.wire.specs.Stream.{framed, held}
 
@@ -30,15 +30,17 @@ Fits NoAddress = Unit {0}
 Fits (Fault f) = Unit {0}
 
 pub record Unmistakable (m : Message) : Type 0 where
-  -- whoever reads it has the message to judge
-  pub read-back : (reader : Reader) (n : Option ℕ) → decoded reader n (encoded m) ≡ judged reader n m
+  pub read-back : (reader : Reader) (n : Option ℕ) → Meant reader n m → decoded reader n (encoded m) ≡ Ok m
+  -- also where it is not meant for the reader, it is judged as the message that it is
+  pub judged-as : (reader : Reader) (n : Option ℕ) → decoded reader n (encoded m) ≡ judged reader n m
   pub alone : (other : Message) → Fits other → encoded other ≡ encoded m → other ≡ m
   pub cut-short : (reader : Reader) (n : Option ℕ) (k : ℕ) → k < length (encoded m) → decoded reader n (take k (encoded m)) ≡ Err Malformed
   pub run-on : (reader : Reader) (n : Option ℕ) (b : ℕ) (bs : List ℕ) → decoded reader n (encoded m ++ b ∷ bs) ≡ Err Malformed
 
--- no byte string but its own is read as a message
-abbrev pub Exact : Reader → Option ℕ → List ℕ → Type 0
-Exact reader n bs = (m : Message) → decoded reader n bs ≡ Ok m → bs ≡ encoded m
+-- no bytes but a message's own are taken for it
+pub record Taken (reader : Reader) (n : Option ℕ) (bs : List ℕ) (m : Message) : Type 0 where
+  pub own-bytes : bs ≡ encoded m
+  pub meant : Meant reader n m
 
 -- a stream holds the messages that were put on it, whatever bytes each of them has, and then what stands behind them
 abbrev pub Delivered : Type 0

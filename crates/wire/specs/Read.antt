@@ -1,6 +1,6 @@
 -- The message that a byte string is, whoever reads it: the first byte says the kind, the kind says the length, and each field begins at its place.
 -- Assumes nothing: a byte string of another kind or length, or with a fault that no number stands for, is no message.
-use mathlib.Core.Bool.{Bool, cond}
+use mathlib.Core.Bool.{cond}
 use mathlib.Core.List.{List, [], _∷_}
 use Prim.Native.Nat.{ℕ}
 use lib.Dec.{eqb}
@@ -47,5 +47,5 @@ read-as None bs = None
 read-as (Some k) bs = cond (eqb (length bs) (table k .size)) (fields-at k bs) None
 
 -- an empty byte string has no kind: 0 is the number of none
-abbrev pub read : List ℕ → Option Message
+unfoldable pub read : List ℕ → Option Message
 read bs = read-as (kind-of (getD bs 0 0)) bs

@@ -36,8 +36,23 @@ held-by (suc turns) (n ∷ bs) = cond (ltb (length bs) n) broken (after (take n 
 unfoldable pub held : List ℕ → Held
 held bs = held-by (length bs) bs
 
--- what a stream begins with, and what it holds then
+-- a stream that begins with a message
+pub record Begins (s bytes rest : List ℕ) : Type 0 where
+  pub is : s ≡ framed bytes ++ rest
+  pub shorter : length rest < length s
+  pub holds : held s ≡ after bytes (held rest)
+
+-- a stream that ends within its first message
+pub record Breaks (s : List ℕ) : Type 0 where
+  pub some : 0 < length s
+  pub short : length s ≤ getD s 0 0
+  pub holds : held s ≡ broken
+
+pub record Ends (s : List ℕ) : Type 0 where
+  pub is : s ≡ []
+  pub holds : held s ≡ none
+
 abbrev pub Reads : List ℕ → Next → Type 0
-Reads s (Message bytes rest) = (s ≡ framed (bytes .now) ++ rest .now) × (held s ≡ after (bytes .now) (held (rest .now)))
-Reads s End = (s ≡ []) × (held s ≡ none)
-Reads s Cut = (0 < length s) × (length s ≤ getD s 0 0) × (held s ≡ broken)
+Reads s (Message bytes rest) = Begins s (bytes .now) (rest .now)
+Reads s End = Ends s
+Reads s Cut = Breaks s

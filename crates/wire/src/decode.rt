@@ -1,7 +1,8 @@
 ghost use mathlib.Core.Path.{_≡_};
 ghost use lib.ListN.{length};
+ghost use Rattle.std.specs.Vec.{made};
 ghost use Rattle.wire.specs.Decode.{decoded, judged, pool, received as receives};
-ghost use Rattle.wire.specs.Laws.{Exact};
+ghost use Rattle.wire.specs.Laws.{Taken};
 ghost use Rattle.wire.specs.Read.{fault-of, fields-at, read as reads};
 ghost use Rattle.wire.specs.Kind.{table};
 use crate::kind::Kind;
@@ -156,7 +157,7 @@ impl Message {
         bytes: &[u8],
     ) -> Result<Message, Fault>
         ensures value { λ r. ⌜ r ≡ decoded reader (pool settings) (now (bytes .entry)) ⌝ }
-        ensures exact { λ _. ⌜ Exact reader (pool settings) (now (bytes .entry)) ⌝ }
+        ensures taken { λ r. ⌜ made r (λ m. Taken reader (pool settings) (now (bytes .entry)) m) ⌝ }
     {
         let Some(message) = read(bytes) else {
             return Err(Fault::Malformed);

@@ -11,7 +11,7 @@ pub enum Reader {
 }
 
 impl Reader {
-    pub fn takes(self, kind: Kind) -> bool
+    pub(crate) fn takes(self, kind: Kind) -> bool
         ensures { λ r. ⌜ r ≡ taken self kind ⌝ }
     {
         match kind {
