@@ -9,8 +9,7 @@ use lib.ListN.{length, take, drop, length-drop, length-append}
 use Rattle.std.proofs.shelf.Lists.{take-at, drop-at, append-assoc}
 use Rattle.std.proofs.shelf.Tests.{cond-true, cond-false, lt-ltb, le-ltb}
 use Rattle.std.specs.Joined.{joined}
-use Rattle.wire.specs.Laws.{Delivered}
-use Rattle.wire.specs.Stream.{framed, Held, none, broken, after, held, held-by}
+use Rattle.wire.specs.Stream.{Delivered, framed, Held, none, broken, after, held, held-by}
 
 -- more turns than bytes change nothing
 enough : (t u : ℕ) (bs : List ℕ) → length bs ≤ t → length bs ≤ u → held-by t bs ≡ held-by u bs

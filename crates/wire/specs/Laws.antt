@@ -6,7 +6,6 @@ use Prim.Native.Nat.{ℕ, _^_, _<_}
 use lib.ListN.{length, take}
 use Rattle.std.specs.declared.option.Option.{Option}
 use Rattle.std.specs.declared.result.Result.the-variants.{Ok, Err}
-use Rattle.std.specs.Joined.{joined}
 use Rattle.lease.specs.declared.fault.Fault.the-variants.{Malformed}
 use Rattle.wire.specs.declared.message.Message.{Message}
 use Rattle.wire.specs.declared.message.Message.the-variants.{Request, Grant, Settings, Tick, Crash, Restart, OwnNumber, Nonce, InUse, NoAddress, Fault}
@@ -14,7 +13,6 @@ use Rattle.wire.specs.declared.reader.Reader.{Reader}
 use Rattle.wire.specs.Decode.{decoded, judged}
 use Rattle.wire.specs.Meant.{Meant}
 use Rattle.wire.specs.Message.{encoded}
-use Rattle.wire.specs.Stream.{framed, held}
 
 abbrev pub Fits : Message → Type 0
 Fits (Request r) = (r .client < 2 ^ 32) × (r .nonce < 2 ^ 64) × (r .preferred < 2 ^ 16)
@@ -41,9 +39,3 @@ pub record Unmistakable (m : Message) : Type 0 where
 pub record Taken (reader : Reader) (n : Option ℕ) (bs : List ℕ) (m : Message) : Type 0 where
   pub own-bytes : bs ≡ encoded m
   pub meant : Meant reader n m
-
--- a stream holds the messages that were put on it, whatever bytes each of them has, and then what stands behind them
-abbrev pub Delivered : Type 0
-Delivered =
-    (ms : List (List ℕ)) (tail : List ℕ)
-    → held (joined framed ms ++ tail) ≡ record { messages = ms ++ held tail .messages; cut = held tail .cut }

@@ -6,6 +6,7 @@ use mathlib.Core.Path.{_≡_}
 use Prim.Native.Nat.{ℕ, zero, suc, _≤_, _<_}
 use lib.Dec.{ltb}
 use lib.ListN.{length, getD, take, drop}
+use Rattle.std.specs.Joined.{joined}
 use Rattle.wire.specs.declared.stream.Next.{Next}
 use Rattle.wire.specs.declared.stream.Next.the-variants.{Message, End, Cut}
 
@@ -56,3 +57,9 @@ abbrev pub Reads : List ℕ → Next → Type 0
 Reads s (Message bytes rest) = Begins s (bytes .now) (rest .now)
 Reads s End = Ends s
 Reads s Cut = Breaks s
+
+-- a stream holds the messages that were put on it, whatever bytes each of them has, and then what stands behind them
+abbrev pub Delivered : Type 0
+Delivered =
+    (ms : List (List ℕ)) (tail : List ℕ)
+    → held (joined framed ms ++ tail) ≡ record { messages = ms ++ held tail .messages; cut = held tail .cut }

@@ -74,12 +74,7 @@ fn fields(kind: Kind, bytes: &[u8]) -> Option<Message>
             until: u64_at(bytes, 3),
         },
         Kind::NoAddress => Message::NoAddress,
-        Kind::Fault => {
-            let Some(fault) = fault_numbered(bytes[1]) else {
-                return None;
-            };
-            Message::Fault(fault)
-        }
+        Kind::Fault => Message::Fault(fault_numbered(bytes[1])?),
     };
     Some(message)
 }

@@ -9,6 +9,13 @@ use crate::kind::Kind;
 
 const MOST_BYTES: usize = 16;
 
+// How many bytes any message has at most, its length among them.
+pub fn most_bytes() -> usize
+    ensures { λ r. ⌜ r ≡ 16 ⌝ }
+{
+    MOST_BYTES
+}
+
 // The bytes of one message with its length before them, as far as they are written.
 #[derive(Clone, Copy)]
 pub struct Frame {

@@ -8,6 +8,7 @@ mod numbers;
 mod reader;
 mod stream;
 
+pub use frame::most_bytes;
 pub use lease::Fault;
 pub use message::Message;
 pub use reader::Reader;

@@ -1,5 +1,4 @@
-ghost use Rattle.wire.specs.Laws.{Delivered};
-ghost use Rattle.wire.specs.Stream.{Reads};
+ghost use Rattle.wire.specs.Stream.{Delivered, Reads};
 
 // What a stream of messages, each with its length before it, begins with.
 #[derive(Clone, Copy)]
