@@ -30,23 +30,17 @@ use Rattle.wire.specs.Read.{read, read-as, fields-at, fault-of, faults}
 use Rattle.wire.specs.Read as reading
 use Rattle.wire.proofs.Digits.{Bytes, own2, own4, own8}
 use Rattle.wire.proofs.Judgement.{by-judgement, refusal}
-use Rattle.wire.proofs.Readings.{same-message}
-
-same-kind : (a b : Kind) → Some a ≡ Some b → a ≡ b
-same-kind a b e = cc
+use Rattle.wire.proofs.Readings.{same-some}
 
 kind-numbered : (n : ℕ) (xs : List Kind) (x : Kind) → numbered n xs ≡ Some x → n ≡ table x .number
 kind-numbered n [] x e = absurd (let z : _≡_ {A = ℕ} 0 1 = cc in omega arith)
 kind-numbered n (y ∷ ys) x e =
-    cond-both (eqb n (table y .number)) (Some y) (numbered n ys) (λ q. q ≡ Some x → n ≡ table x .number) (λ t f. eqb-true n (table y .number) t ∙ ap (λ (a : Kind). table a .number) (same-kind y x f)) (λ t f. kind-numbered n ys x f) e
-
-same-fault : (a b : lease.Fault) → Some a ≡ Some b → a ≡ b
-same-fault a b e = cc
+    cond-both (eqb n (table y .number)) (Some y) (numbered n ys) (λ q. q ≡ Some x → n ≡ table x .number) (λ t f. eqb-true n (table y .number) t ∙ ap (λ (a : Kind). table a .number) (same-some y x f)) (λ t f. kind-numbered n ys x f) e
 
 fault-numbered : (n : ℕ) (fs : List lease.Fault) (f : lease.Fault) → reading.numbered n fs ≡ Some f → n ≡ fault.number f
 fault-numbered n [] f e = absurd (let z : _≡_ {A = ℕ} 0 1 = cc in omega arith)
 fault-numbered n (g ∷ gs) f e =
-    cond-both (eqb n (fault.number g)) (Some g) (reading.numbered n gs) (λ q. q ≡ Some f → n ≡ fault.number f) (λ t h. eqb-true n (fault.number g) t ∙ ap fault.number (same-fault g f h)) (λ t h. fault-numbered n gs f h) e
+    cond-both (eqb n (fault.number g)) (Some g) (reading.numbered n gs) (λ q. q ≡ Some f → n ≡ fault.number f) (λ t h. eqb-true n (fault.number g) t ∙ ap fault.number (same-some g f h)) (λ t h. fault-numbered n gs f h) e
 
 -- a list by its elements from a place on
 abbrev listed : List ℕ → ℕ → ℕ → List ℕ
@@ -68,23 +62,23 @@ exact8 bs i b = own8 bs i b ∙ ap₂ both (own4 bs i b) (own4 bs (i + 4) b)
 
 fault-within : (o : Option lease.Fault) (m : Message) → mapped Fault o ≡ Some m → (f : lease.Fault) × (o ≡ Some f) × (Fault f ≡ m)
 fault-within None m e = absurd (let z : _≡_ {A = ℕ} 0 1 = cc in omega arith)
-fault-within (Some f) m e = (f, refl, same-message (Fault f) m e)
+fault-within (Some f) m e = (f, refl, same-some (Fault f) m e)
 
 by-fields : (x : Kind) (bs : List ℕ) → Bytes bs → length bs ≡ table x .size → getD bs 0 0 ≡ table x .number → (m : Message) → fields-at x bs ≡ Some m → bs ≡ encoded m
 by-fields k.Request bs b l e m h =
-    elements bs 0 15 (sym l) ∙ ap₂ cons e (ap₂ both (sym (own4 bs 1 b)) (ap₂ both (sym (exact8 bs 5 b)) (sym (own2 bs 13 b)))) ∙ ap encoded (same-message _ m h)
+    elements bs 0 15 (sym l) ∙ ap₂ cons e (ap₂ both (sym (own4 bs 1 b)) (ap₂ both (sym (exact8 bs 5 b)) (sym (own2 bs 13 b)))) ∙ ap encoded (same-some _ m h)
 by-fields k.Grant bs b l e m h =
-    elements bs 0 15 (sym l) ∙ ap₂ cons e (ap₂ both (sym (own4 bs 1 b)) (ap₂ both (sym (exact8 bs 5 b)) (sym (own2 bs 13 b)))) ∙ ap encoded (same-message _ m h)
+    elements bs 0 15 (sym l) ∙ ap₂ cons e (ap₂ both (sym (own4 bs 1 b)) (ap₂ both (sym (exact8 bs 5 b)) (sym (own2 bs 13 b)))) ∙ ap encoded (same-some _ m h)
 by-fields k.Settings bs b l e m h =
-    elements bs 0 9 (sym l) ∙ ap₂ cons e (ap₂ both (sym (own2 bs 1 b)) (ap₂ both (sym (own4 bs 3 b)) (sym (own2 bs 7 b)))) ∙ ap encoded (same-message _ m h)
-by-fields k.Tick bs b l e m h = elements bs 0 1 (sym l) ∙ ap₂ cons e refl ∙ ap encoded (same-message _ m h)
-by-fields k.Crash bs b l e m h = elements bs 0 1 (sym l) ∙ ap₂ cons e refl ∙ ap encoded (same-message _ m h)
-by-fields k.Restart bs b l e m h = elements bs 0 9 (sym l) ∙ ap₂ cons e (sym (exact8 bs 1 b)) ∙ ap encoded (same-message _ m h)
-by-fields k.OwnNumber bs b l e m h = elements bs 0 5 (sym l) ∙ ap₂ cons e (sym (own4 bs 1 b)) ∙ ap encoded (same-message _ m h)
-by-fields k.Nonce bs b l e m h = elements bs 0 9 (sym l) ∙ ap₂ cons e (sym (exact8 bs 1 b)) ∙ ap encoded (same-message _ m h)
+    elements bs 0 9 (sym l) ∙ ap₂ cons e (ap₂ both (sym (own2 bs 1 b)) (ap₂ both (sym (own4 bs 3 b)) (sym (own2 bs 7 b)))) ∙ ap encoded (same-some _ m h)
+by-fields k.Tick bs b l e m h = elements bs 0 1 (sym l) ∙ ap₂ cons e refl ∙ ap encoded (same-some _ m h)
+by-fields k.Crash bs b l e m h = elements bs 0 1 (sym l) ∙ ap₂ cons e refl ∙ ap encoded (same-some _ m h)
+by-fields k.Restart bs b l e m h = elements bs 0 9 (sym l) ∙ ap₂ cons e (sym (exact8 bs 1 b)) ∙ ap encoded (same-some _ m h)
+by-fields k.OwnNumber bs b l e m h = elements bs 0 5 (sym l) ∙ ap₂ cons e (sym (own4 bs 1 b)) ∙ ap encoded (same-some _ m h)
+by-fields k.Nonce bs b l e m h = elements bs 0 9 (sym l) ∙ ap₂ cons e (sym (exact8 bs 1 b)) ∙ ap encoded (same-some _ m h)
 by-fields k.InUse bs b l e m h =
-    elements bs 0 11 (sym l) ∙ ap₂ cons e (ap₂ both (sym (own2 bs 1 b)) (sym (exact8 bs 3 b))) ∙ ap encoded (same-message _ m h)
-by-fields k.NoAddress bs b l e m h = elements bs 0 1 (sym l) ∙ ap₂ cons e refl ∙ ap encoded (same-message _ m h)
+    elements bs 0 11 (sym l) ∙ ap₂ cons e (ap₂ both (sym (own2 bs 1 b)) (sym (exact8 bs 3 b))) ∙ ap encoded (same-some _ m h)
+by-fields k.NoAddress bs b l e m h = elements bs 0 1 (sym l) ∙ ap₂ cons e refl ∙ ap encoded (same-some _ m h)
 by-fields k.Fault bs b l e m h =
     let (f, is, same) = fault-within (fault-of (getD bs 1 0)) m h in
     elements bs 0 2 (sym l) ∙ ap₂ (λ (x y : ℕ). x ∷ y ∷ []) e (fault-numbered (getD bs 1 0) faults f is) ∙ ap encoded same
@@ -98,8 +92,11 @@ by-answer : (reader : Reader) (n : Option ℕ) (o : Option Message) (m : Message
 by-answer reader n None m e = absurd (refusal Malformed m e)
 by-answer reader n (Some a) m e = by-judgement reader n a m e
 
-pub exact : (reader : Reader) (n : Option ℕ) (bs : List ℕ) → Bytes bs → (m : Message) → decoded reader n bs ≡ Ok m → Taken reader n bs m
+pub own-bytes : (bs : List ℕ) → Bytes bs → (m : Message) → read bs ≡ Some m → bs ≡ encoded m
 unfolding read
+own-bytes bs b m e = by-kind (kind-of (getD bs 0 0)) bs refl b m e
+
+pub exact : (reader : Reader) (n : Option ℕ) (bs : List ℕ) → Bytes bs → (m : Message) → decoded reader n bs ≡ Ok m → Taken reader n bs m
 exact reader n bs b m e =
     let (is, meant) = by-answer reader n (read bs) m e in
-    record { own-bytes = by-kind (kind-of (getD bs 0 0)) bs refl b m is; meant = meant }
+    record { own-bytes = own-bytes bs b m is; meant = meant }

@@ -37,7 +37,7 @@ fault-back BadSettings = refl
 fault-back TableLost = refl
 fault-back CountExhausted = refl
 
-read-encoded : (m : Message) → Fits m → read (encoded m) ≡ Some m
+pub read-encoded : (m : Message) → Fits m → read (encoded m) ≡ Some m
 unfolding read bytes2 bytes4 bytes8
 read-encoded (Request r) h =
     let P : ℕ → ℕ → ℕ → Option Message = λ a b c. Some (Request (record { client = a; nonce = b; preferred = c })) in
@@ -103,15 +103,15 @@ lengthened m b bs =
     let l = length-append (fields m) (b ∷ bs) in
     misfit (kind m) (fields m ++ b ∷ bs) (λ e. let s = sized m in omega arith)
 
-pub same-message : (a b : Message) → Some a ≡ Some b → a ≡ b
-same-message a b e = cc
+pub same-some : {A : Type 0} (a b : A) → Some a ≡ Some b → a ≡ b
+same-some a b e = cc
 
 pub unmistakable : (m : Message) → Fits m → Unmistakable m
 unmistakable m h =
     record {
       read-back = λ reader n meant. ap (answered reader n) (read-encoded m h) ∙ to-judgement reader n m meant;
       judged-as = λ reader n. ap (answered reader n) (read-encoded m h);
-      alone = λ other f e. same-message other m (sym (read-encoded other f) ∙ (ap read e ∙ read-encoded m h));
+      alone = λ other f e. same-some other m (sym (read-encoded other f) ∙ (ap read e ∙ read-encoded m h));
       cut-short = λ reader n i l. ap (answered reader n) (shortened m i l);
       run-on = λ reader n b bs. ap (answered reader n) (lengthened m b bs);
     }

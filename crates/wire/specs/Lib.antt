@@ -7,4 +7,5 @@ pub mod Message
 pub mod Numbers
 pub mod Read
 pub mod Reader
+pub mod Refused
 pub mod Stream

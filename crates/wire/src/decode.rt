@@ -1,9 +1,10 @@
 ghost use mathlib.Core.Path.{_≡_};
 ghost use lib.ListN.{length, getD};
-ghost use Rattle.std.specs.Vec.{made};
+ghost use Rattle.std.specs.Results.{Cases};
 ghost use Rattle.wire.specs.Decode.{decoded, judged, pool, received as receives};
 ghost use Rattle.wire.specs.Laws.{Taken};
 ghost use Rattle.wire.specs.Kind.{kind-of, table};
+ghost use Rattle.wire.specs.Refused.{Refused};
 ghost use Rattle.wire.specs.Read.{fault-of, fields-at, read-as};
 use crate::kind::Kind;
 use crate::message::Message;
@@ -152,7 +153,7 @@ impl Message {
         bytes: &[u8],
     ) -> Result<Message, Fault>
         ensures value { λ r. ⌜ r ≡ decoded reader (pool settings) (now (bytes .entry)) ⌝ }
-        ensures taken { λ r. ⌜ made r (λ m. Taken reader (pool settings) (now (bytes .entry)) m) ⌝ }
+        ensures law { λ r. ⌜ Cases r (λ m. Taken reader (pool settings) (now (bytes .entry)) m) (λ f. Refused reader (pool settings) (now (bytes .entry)) f) ⌝ }
     {
         let Some(message) = read(bytes) else {
             return Err(Fault::Malformed);
