@@ -1,3 +1,5 @@
+ghost use Prim.Native.Nat.{_<_};
+ghost use Rattle.std.specs.Vec.{made};
 use lease::Settings;
 use std::alloc::Global;
 use std::error::AnyError;
@@ -58,7 +60,9 @@ fn settings_of(text: &str) -> Result<Option<Settings>, AnyError> {
     Ok(Some(settings))
 }
 
-fn digit_of(byte: u8) -> Result<u8, AnyError> {
+fn digit_of(byte: u8) -> Result<u8, AnyError>
+    ensures { λ r. ⌜ made r (λ d. d < 16) ⌝ }
+{
     match byte {
         b'0'..=b'9' => Ok(byte - b'0'),
         b'a'..=b'f' => Ok(byte - b'a' + 10),
