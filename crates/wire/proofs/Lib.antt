@@ -1,0 +1,6 @@
+pub mod Digits
+pub mod Exactness
+pub mod Judgement
+pub mod Readings
+pub mod Refusals
+pub mod Streams
