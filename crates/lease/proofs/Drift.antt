@@ -19,7 +19,7 @@ use Rattle.lease.specs.Settings.{Settings}
 use Rattle.lease.specs.Table.{at}
 use Rattle.lease.specs.Holding.{Holding, taking, settled}
 use Rattle.lease.specs.World.{Message, Requests, Grants, Server, Client, World, elem, sent}
-use Rattle.lease.specs.Run.{Event, Pass, Asks, ServerHears, ServerHearsAndCrashes, ClientHears, ClientStarts, ClientCrashes, ServerCrashes, ServerRestarts, asks, requested, answer, serves, serverHears, heldBy, hearing, withClient, clientHears, step, world}
+use Rattle.lease.specs.Run.{Event, Pass, Asks, ServerHears, ServerHearsAndCrashes, ClientHears, ClientStarts, ClientCrashes, ServerCrashes, Forgets, ServerRestarts, forgets, asks, requested, answer, serves, serverHears, heldBy, hearing, withClient, clientHears, step, world}
 use Rattle.lease.specs.Premise.{spares, sparesAll, Stretch, Close, Onward, Forward, AllAlong}
 use Rattle.lease.specs.Drift.{Gains, GainsAtMost, LittleDrift}
 use Rattle.lease.proofs.History.{passes-clock, client-clock, restarts-clock}
@@ -53,6 +53,9 @@ serves-clock : (s : Settings) (v : Server) (x : Answer) → serves s x v .clock 
 serves-clock s v Unheard = refl
 serves-clock s v (Granted g) = refl
 serves-clock s v (Refused f) = refl
+
+forgets-clock : (gone : ℕ → Bool) (v : Server) → forgets gone v .clock ≡ v .clock
+forgets-clock gone v = cond-both (v .up) _ v (λ (z : Server). z .clock ≡ v .clock) (λ e. refl) (λ e. refl)
 
 hears-clock : (s : Settings) (w : World) (o : Option Message) → (serverHears s o w .server .clock ≡ w .server .clock) × (serverHears s o w .clients ≡ w .clients)
 hears-clock s w None = (refl, refl)
@@ -96,6 +99,7 @@ step-gains x s w c (ClientHears d i) g sp u = takes-still x s w c d (sent i (w .
 step-gains x s w c (ClientStarts d clock) g sp u = still x w _ c u refl (other-alike w c d _ sp)
 step-gains x s w c (ClientCrashes d) g sp u = still x w _ c u refl (other-alike w c d _ sp)
 step-gains x s w c ServerCrashes g sp u = still x w _ c u refl (alike _)
+step-gains x s w c (Forgets gone) g sp u = still x w _ c u (forgets-clock gone (w .server)) (alike _)
 step-gains x s w c (ServerRestarts clock lost) g sp u =
     let q : _ = restarts-clock s clock lost (w .server) .0 in
     record { up = u; behind = omega (arith, q, g .0); near = omega (arith, q, g .1) }
@@ -125,6 +129,7 @@ onward x (ClientHears d i) w g = tt
 onward x (ClientStarts d clock) w g = tt
 onward x (ClientCrashes d) w g = tt
 onward x ServerCrashes w g = tt
+onward x (Forgets gone) w g = tt
 onward x (ServerRestarts clock lost) w g = g .0
 
 all-along : (s : Settings) (n : ℕ) (es : List Event) → n ≤ s .skew → GainsAtMost s n es → AllAlong (Close s) es × Forward s es

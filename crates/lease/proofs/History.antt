@@ -12,12 +12,12 @@ use Rattle.std.specs.declared.option.Option.the-variants.{Some, None}
 use Rattle.std.proofs.shelf.Tests.{cond-both, cond-true, eqb-false, ne-eqb, not-from-false, and-from}
 use Rattle.lease.specs.Settings.{Settings, life, outlasts}
 use Rattle.lease.specs.World.{Message, Server, Client, World, sent}
-use Rattle.lease.specs.Run.{Event, Pass, Asks, ServerHears, ServerHearsAndCrashes, ClientHears, ClientStarts, ClientCrashes, ServerCrashes, ServerRestarts, serverPasses, clientPasses, restarts, step, world}
+use Rattle.lease.specs.Run.{Event, Pass, Asks, ServerHears, ServerHearsAndCrashes, ClientHears, ClientStarts, ClientCrashes, ServerCrashes, Forgets, ServerRestarts, serverPasses, clientPasses, restarts, step, world}
 use Rattle.lease.specs.Premise.{spares, sparesAll, Stretch, Near, Close, AllAlong, Agree, CloselyIsEnough}
 use Rattle.lease.proofs.Options.{none-some, some-same}
 use Rattle.lease.proofs.Claims.{In}
 use Rattle.lease.proofs.Sound.{Moments, Sound, Agrees}
-use Rattle.lease.proofs.ServerSteps.{server-crashes, server-restarts, server-hears, server-hears-and-crashes}
+use Rattle.lease.proofs.ServerSteps.{server-crashes, server-forgets, server-restarts, server-hears, server-hears-and-crashes}
 use Rattle.lease.proofs.ClientSteps.{client-forgets, client-asks, client-hears}
 use Rattle.lease.proofs.Passing.{time-passes}
 
@@ -96,6 +96,7 @@ sound-step s S S′ (ClientHears c i) w ag ag′ ks now now′ so = client-hears
 sound-step s S S′ (ClientStarts c clock) w ag ag′ ks now now′ so = client-forgets s S S′ w so c clock true (λ d e. ks d (other c d e))
 sound-step s S S′ (ClientCrashes c) w ag ag′ ks now now′ so = client-forgets s S S′ w so c _ false (λ d e. ks d (other c d e))
 sound-step s S S′ ServerCrashes w ag ag′ ks now now′ so = server-crashes s S S′ w so (λ c. ks c refl)
+sound-step s S S′ (Forgets gone) w ag ag′ ks now now′ so = server-forgets s S S′ w so ag (λ c. ks c refl) now gone
 sound-step s S S′ (ServerRestarts clock lost) w ag ag′ ks now now′ so =
     let r : (restarts s clock lost (w .server) .clock ≡ clock) × (restarts s clock lost (w .server) .up ≡ true) = restarts-clock s clock lost (w .server) in
     server-restarts s S S′ w so clock lost (λ c. ks c refl) (λ c up. subst (λ (z : ℕ). S′ c (w .clients c .clock) z) (r .0) (now′ c (r .1) up))

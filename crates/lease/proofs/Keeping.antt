@@ -16,12 +16,12 @@ use Rattle.lease.specs.Settings.{Settings, life}
 use Rattle.lease.specs.Table.{Table, empty, OneEach, Pooled}
 use Rattle.lease.specs.Choosing.{Chosen}
 use Rattle.lease.specs.World.{Message, Requests, Grants, Server, World, isSilent, elem, sent}
-use Rattle.lease.specs.Run.{Event, Pass, Asks, ServerHears, ServerHearsAndCrashes, ClientHears, ClientStarts, ClientCrashes, ServerCrashes, ServerRestarts, over, requested, asks, answer, serves, serverHears, clientHears, step, world}
+use Rattle.lease.specs.Run.{Event, Pass, Asks, ServerHears, ServerHearsAndCrashes, ClientHears, ClientStarts, ClientCrashes, ServerCrashes, Forgets, ServerRestarts, over, forgets, requested, asks, answer, serves, serverHears, clientHears, step, world}
 use Rattle.lease.specs.Premise.{Onward, Forward}
 use Rattle.lease.specs.Promise.{OneLeaseEach}
 use Rattle.lease.proofs.Options.{none-some}
 use Rattle.lease.proofs.Choosing.{laws}
-use Rattle.lease.proofs.Tidy.{one-empty, one-later, one-written, pooled-written}
+use Rattle.lease.proofs.Tidy.{one-empty, one-later, one-written, one-forgotten, forgotten-from, pooled-written}
 use Rattle.lease.proofs.Answers.{GrantedBy, Meant, meant}
 
 pub record Tidy (s : Settings) (v : Server) : Type 0 where
@@ -69,6 +69,13 @@ tidy-step s (ClientHears c i) w on k = client-tidy s w c (sent i (w .messages)) 
 tidy-step s (ClientStarts c clock) w on k = k
 tidy-step s (ClientCrashes c) w on k = k
 tidy-step s ServerCrashes w on k = record { pooled = k .pooled; one = k .one }
+tidy-step s (Forgets gone) w on k =
+    cond-both (w .server .up) _ (w .server) (λ v. Tidy s v)
+    (λ e. record {
+      pooled = λ a l f. k .pooled a l (forgotten-from (w .server .clock) gone (w .server .table) a l f);
+      one = one-forgotten (w .server .clock) gone (w .server .table) (k .one);
+    })
+    (λ e. k)
 tidy-step s (ServerRestarts clock lost) w on k =
     cond-both (lost || isSilent (w .server .silent)) _ _ (λ v. Tidy s v) (λ e. tidy-empty s clock _ _) (λ e. tidy-later s (w .server) clock _ _ on k)
 

@@ -13,7 +13,7 @@ use Rattle.std.specs.declared.option.Option.the-variants.{Some, None}
 use Rattle.std.proofs.shelf.Lists.{getD-past, getD-set-same, getD-set-other}
 use Rattle.std.proofs.shelf.Tests.{cond-both, cond-true, cond-false, cases-eq, cases-lt, eq-eqb, ne-eqb, eqb-true}
 use Rattle.lease.specs.declared.lease.Lease.{Lease}
-use Rattle.lease.specs.Table.{Table, tableOf, empty, at, written, Placed, Pooled}
+use Rattle.lease.specs.Table.{Table, tableOf, empty, at, written, atHome, Placed, Pooled}
 use Rattle.lease.specs.Choosing.{lowest}
 use Rattle.lease.proofs.Options.{none-some, some-same}
 
@@ -85,3 +85,19 @@ module _ (test : ℕ → Bool) where
 -- no lease stands outside the list
 pub table-pooled : (xs : List (Option Lease)) (n : ℕ) → length xs ≡ n → Pooled n (tableOf xs)
 table-pooled xs n h a l e = elim (cases-lt a n) [ inl k ↦ k | inr k ↦ absurd (none-some l (sym (table-past xs a (omega arith)) ∙ e)) ]
+
+-- a place written by what is at home there
+at-home-address : (i : ℕ) (o : Option Lease) (l : Lease) → atHome i o ≡ Some l → l .address ≡ i
+at-home-address i None l = λ e. absurd (none-some l e)
+at-home-address i (Some m) l =
+    cond-both (eqb (m .address) i) (Some m) None (λ x. x ≡ Some l → l .address ≡ i) (λ e f. ap (λ (x : Lease). x .address) (sym (some-same m l f)) ∙ eqb-true _ _ e) (λ e f. absurd (none-some l f))
+
+pub placed-at-home : (xs : List (Option Lease)) (i : ℕ) (o p : Option Lease) → i < length xs → p ≡ atHome i o → Placed (tableOf xs) → Placed (tableOf (set xs i p))
+placed-at-home xs i o p h e k =
+    subst (λ (t : Table). Placed t) (sym (fun-ext (λ j. set-at xs i p None j h))) (placed-at (tableOf xs) i p (λ m f. at-home-address i o m (sym e ∙ f)) k)
+
+pub set-here : (xs : List (Option Lease)) (i : ℕ) (o : Option Lease) → i < length xs → tableOf (set xs i o) i ≡ o
+set-here xs i o h = getD-set-same xs i o None h
+
+pub set-below : (xs : List (Option Lease)) (i k : ℕ) (o : Option Lease) → k < i → tableOf (set xs i o) k ≡ tableOf xs k
+set-below xs i k o h = getD-set-other xs i k o None (λ e. omega arith)

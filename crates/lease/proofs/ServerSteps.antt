@@ -2,7 +2,7 @@
 -- Assumes nothing.
 use mathlib.Core.Path.{_≡_, refl, sym, ap, _∙_}
 use mathlib.Core.Logic.{_⊎_, inl, inr}
-use mathlib.Core.Bool.{Bool, true, false, cond, _||_}
+use mathlib.Core.Bool.{Bool, true, false, cond, _&&_, _||_}
 use mathlib.Core.List.{List, _∷_}
 use Prim.Native.Nat.{ℕ, _+_, _<_, _≤_}
 use native.Mathlib.Omega.{arith}
@@ -16,13 +16,13 @@ use Rattle.lease.specs.declared.lease.Lease.{Lease}
 use Rattle.lease.specs.declared.message.Request.{Request}
 use Rattle.lease.specs.declared.message.Grant.{Grant}
 use Rattle.lease.specs.Settings.{Settings, life, silence}
-use Rattle.lease.specs.Table.{Table, empty, at, leased, written}
+use Rattle.lease.specs.Table.{Table, empty, at, vacant, leased, written, forgotten}
 use Rattle.lease.specs.Choosing.{Chosen}
 use Rattle.lease.specs.World.{Message, Requests, Grants, Server, World, isSilent, elem}
-use Rattle.lease.specs.Run.{answer, serves, lends, crashes, withServer, restarts, replied, serverHears}
+use Rattle.lease.specs.Run.{answer, serves, lends, crashes, withServer, forgets, restarts, replied, serverHears}
 use Rattle.lease.proofs.Options.{none-some, some-same}
 use Rattle.lease.proofs.Choosing.{laws}
-use Rattle.lease.proofs.Tidy.{free-live}
+use Rattle.lease.proofs.Tidy.{free-live, forgotten-stays}
 use Rattle.lease.proofs.Claims.{In, view, Line, Claim, claim-on}
 use Rattle.lease.proofs.Sound.{Moments, Sound, Agrees, Mine, Kept, sound-loses, server-does, claim-stays, same}
 use Rattle.lease.proofs.Answers.{GrantedBy, Meant, meant, not-silent}
@@ -113,6 +113,24 @@ module _ (s : Settings) (S S′ : Moments) (w : World) (k : Sound s S w) where
                   record { lease = new; there = cond-true (eqb a (g .address)) _ _ e; client = by .client ∙ sym mine ∙ x .line .client; expires = omega (arith, x .past) }
               | inr e ↦ record { lease = x .line .lease; there = cond-false (eqb a (g .address)) _ _ e ∙ x .line .there; client = x .line .client; expires = x .line .expires }
             ]
+
+    -- what is over is forgotten: no claim rests on it
+    pub server-forgets : (gone : ℕ → Bool) → Sound s S′ (withServer (forgets gone v) w)
+    server-forgets gone =
+        cond-both (v .up) _ v (λ v′. Sound s S′ (withServer v′ w))
+        (λ up. server-does s S S′ w k (record { clock = v .clock; up = v .up; silent = v .silent; table = forgotten (v .clock) gone (v .table) }) (forgotten (v .clock) gone (k .book)) (w .messages)
+        (λ e a. ap (λ (o : Option Lease). cond (gone a && vacant (v .clock) o) None o) (k .kept e a)) (k .nonces)
+        (λ d asked a d-up l x.
+        let live : v .clock ≤ x .h + life s = ag d up (x .t) (x .h) (x .moment) (x .seen) (omega (arith, x .since)) in
+        claim-on (life s) (S d) (S′ d) (view w (k .book)) _ d _ _ asked a (ks d) (omega arith) x (x .past) (x .hushed)
+        (record {
+          lease = x .line .lease;
+          there = forgotten-stays (v .clock) gone (k .book) a (x .line .lease) (x .line .there) (omega (arith, live, x .line .expires));
+          client = x .line .client;
+          expires = x .line .expires;
+        }))
+        (λ d g own i. inl i))
+        (λ down. same s S S′ w k ks)
 
     answer-sound : (r : Request) → elem (r .nonce) (w .drawn) ≡ true → (x : Answer) → Meant s v r x → Sound s S′ (replied s x w)
     answer-sound r drawn Unheard by = same s S S′ w k ks

@@ -10,10 +10,10 @@ use Rattle.std.specs.declared.option.Option.{Option}
 use Rattle.std.specs.declared.option.Option.the-variants.{Some, None}
 use Rattle.std.specs.declared.result.Result.{Result}
 use Rattle.std.specs.declared.result.Result.the-variants.{Ok, Err}
-use Rattle.std.proofs.shelf.Tests.{cond-both, both-ways, eqb-true, eq-eqb, leb-true, le-leb, and-parts, and-from, or-cases, not-true}
+use Rattle.std.proofs.shelf.Tests.{cond-both, cond-false, and-right, both-ways, eqb-true, eq-eqb, leb-true, le-leb, and-parts, and-from, or-cases, not-true}
 use Rattle.lease.specs.declared.lease.Lease.{Lease}
 use Rattle.lease.specs.declared.message.Request.{Request}
-use Rattle.lease.specs.Table.{Table, empty, at, live, owned, free, leased, written, OneEach, Pooled}
+use Rattle.lease.specs.Table.{Table, empty, at, live, owned, vacant, free, leased, written, forgotten, OneEach, Pooled}
 use Rattle.lease.specs.Choosing.{Chosen, leasing, entered}
 use Rattle.lease.proofs.Options.{none-some, some-same}
 
@@ -60,6 +60,23 @@ one-later now later t n k c a b e f = k c a b (owned-earlier now later c (t a) n
 pub pooled-written : (pool : ℕ) (t : Table) (l : Lease) → l .address < pool → Pooled pool t → Pooled pool (written l t)
 pooled-written pool t l h k a m =
     cond-both (eqb a (l .address)) (Some l) (t a) (λ x. x ≡ Some m → a < pool) (λ f g. omega (arith, h, eqb-true a (l .address) f)) (λ f g. k a m g)
+
+-- what is left after forgetting was there, and what is live is left
+pub forgotten-from : (now : ℕ) (gone : ℕ → Bool) (t : Table) (a : ℕ) (l : Lease) → forgotten now gone t a ≡ Some l → t a ≡ Some l
+forgotten-from now gone t a l = cond-both (gone a && vacant now (t a)) None (t a) (λ x. x ≡ Some l → t a ≡ Some l) (λ e f. absurd (none-some l f)) (λ e f. f)
+
+pub forgotten-stays : (now : ℕ) (gone : ℕ → Bool) (t : Table) (a : ℕ) (l : Lease) → t a ≡ Some l → now ≤ l .expires → forgotten now gone t a ≡ Some l
+forgotten-stays now gone t a l e h =
+    let lives : vacant now (t a) ≡ false = ap (λ (o : Option Lease). vacant now o) e ∙ ap not (le-leb _ _ h) in
+    cond-false (gone a && vacant now (t a)) None (t a) (and-right (gone a) _ lives) ∙ e
+
+owned-forgotten : (now : ℕ) (gone : ℕ → Bool) (t : Table) (c a : ℕ) → owned now c (forgotten now gone t a) ≡ true → owned now c (t a) ≡ true
+owned-forgotten now gone t c a e =
+    let k : Owned now c (forgotten now gone t a) = owned-parts now c (forgotten now gone t a) e in
+    owned-from now c (t a) (record { lease = k .lease; there = forgotten-from now gone t a (k .lease) (k .there); client = k .client; lives = k .lives })
+
+pub one-forgotten : (now : ℕ) (gone : ℕ → Bool) (t : Table) → OneEach now t → OneEach now (forgotten now gone t)
+one-forgotten now gone t k c a b e f = k c a b (owned-forgotten now gone t c a e) (owned-forgotten now gone t c b f)
 
 -- the chosen address is written
 module _ (pool now : ℕ) (t : Table) (r : Request) (q : ℕ) (life : ℕ) (o : Option ℕ) (pooled : Pooled pool t) (one : OneEach now t) (ch : Chosen pool now t r o) (e : o ≡ Some q) where

@@ -5,7 +5,7 @@ use mathlib.Core.List.{List, [], _∷_}
 use Prim.Native.Nat.{ℕ, _+_, _-_, _≤_}
 use Rattle.lease.specs.Settings.{Settings}
 use Rattle.lease.specs.World.{World}
-use Rattle.lease.specs.Run.{Event, Pass, Asks, ServerHears, ServerHearsAndCrashes, ClientHears, ClientStarts, ClientCrashes, ServerCrashes, ServerRestarts, world}
+use Rattle.lease.specs.Run.{Event, Pass, Asks, ServerHears, ServerHearsAndCrashes, ClientHears, ClientStarts, ClientCrashes, ServerCrashes, Forgets, ServerRestarts, world}
 use Rattle.lease.specs.Premise.{AgreeClosely}
 
 -- at this event the server's clock gains at most `x` ticks on any client's, and loses none
@@ -18,6 +18,7 @@ Gains x (ClientHears d i) w = Unit
 Gains x (ClientStarts d clock) w = Unit
 Gains x (ClientCrashes d) w = Unit
 Gains x ServerCrashes w = Unit
+Gains x (Forgets gone) w = Unit
 Gains x (ServerRestarts clock lost) w = (w .server .clock ≤ clock) × (clock ≤ w .server .clock + x)
 
 -- and at most `n` in the whole run

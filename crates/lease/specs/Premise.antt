@@ -7,7 +7,7 @@ use Prim.Native.Nat.{ℕ, _+_, _≤_}
 use lib.Dec.{eqb}
 use Rattle.lease.specs.Settings.{Settings, outlasts}
 use Rattle.lease.specs.World.{World}
-use Rattle.lease.specs.Run.{Event, Pass, Asks, ServerHears, ServerHearsAndCrashes, ClientHears, ClientStarts, ClientCrashes, ServerCrashes, ServerRestarts, world}
+use Rattle.lease.specs.Run.{Event, Pass, Asks, ServerHears, ServerHearsAndCrashes, ClientHears, ClientStarts, ClientCrashes, ServerCrashes, Forgets, ServerRestarts, world}
 
 -- the client neither crashes nor starts at this event
 abbrev pub spares : ℕ → Event → Bool
@@ -19,6 +19,7 @@ spares c (ClientHears d i) = true
 spares c (ClientStarts d clock) = not (eqb d c)
 spares c (ClientCrashes d) = not (eqb d c)
 spares c ServerCrashes = true
+spares c (Forgets gone) = true
 spares c (ServerRestarts clock lost) = true
 
 unfoldable pub sparesAll : ℕ → List Event → Bool
@@ -64,6 +65,7 @@ Onward (ClientHears d i) w = Unit
 Onward (ClientStarts d clock) w = Unit
 Onward (ClientCrashes d) w = Unit
 Onward ServerCrashes w = Unit
+Onward (Forgets gone) w = Unit
 Onward (ServerRestarts clock lost) w = w .server .clock ≤ clock
 
 -- THE PREMISE OF KEEPING ONE'S ADDRESS, beside the other

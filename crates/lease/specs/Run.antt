@@ -15,7 +15,7 @@ use Rattle.lease.specs.declared.message.Grant.{Grant}
 use Rattle.lease.specs.declared.answer.Answer.{Answer}
 use Rattle.lease.specs.declared.answer.Answer.the-variants.{Unheard, Granted, Refused}
 use Rattle.lease.specs.Settings.{Settings, life, silence}
-use Rattle.lease.specs.Table.{empty, at, leased, written}
+use Rattle.lease.specs.Table.{empty, at, leased, written, forgotten}
 use Rattle.lease.specs.Choosing.{choose}
 use Rattle.lease.specs.Holding.{Holding, later, asking, taking, settled}
 use Rattle.lease.specs.World.{Message, Requests, Grants, Server, Client, World, start, knowing-nothing, isSilent, elem, sent}
@@ -24,6 +24,7 @@ use Rattle.lease.specs.World.{Message, Requests, Grants, Server, Client, World
 -- Asks: with a nonce that was never drawn before; with another nobody asks.
 -- The network brings any message that was ever sent, to anybody, as often as it likes, or never: `which` counts from the newest.
 -- ServerHearsAndCrashes: the server crashes before it answers; `wrote` says whether the lease was written by then.
+-- Forgets: leases that are over, at the addresses named, may be forgotten by a server that is up.
 -- A start or restart may come without a crash before it. `lost` says whether the server can't read its table.
 pub data Event : Type 0 where
   Pass : (k : ℕ) (ticks : ℕ → ℕ) → Event
@@ -34,6 +35,7 @@ pub data Event : Type 0 where
   ClientStarts : (client clock : ℕ) → Event
   ClientCrashes : (client : ℕ) → Event
   ServerCrashes : Event
+  Forgets : (gone : ℕ → Bool) → Event
   ServerRestarts : (clock : ℕ) (lost : Bool) → Event
 
 -- the silence is over: a server that is up is past it
@@ -71,6 +73,9 @@ serves s (Refused f) v = v
 
 abbrev pub crashes : Server → Server
 crashes v = record { clock = v .clock; up = false; silent = v .silent; table = v .table }
+
+abbrev pub forgets : (gone : ℕ → Bool) → Server → Server
+forgets gone v = cond (v .up) (record { clock = v .clock; up = v .up; silent = v .silent; table = forgotten (v .clock) gone (v .table) }) v
 
 -- a server that was silent can't read its table at a restart either: each restart starts the silence anew
 abbrev pub restarts : Settings → (clock : ℕ) → (lost : Bool) → Server → Server
@@ -146,6 +151,7 @@ step s (ClientHears c i) w = clientHears s c (sent i (w .messages)) w
 step s (ClientStarts c clock) w = withClient c (knowing-nothing clock true) w
 step s (ClientCrashes c) w = withClient c (knowing-nothing (w .clients c .clock) false) w
 step s ServerCrashes w = withServer (crashes (w .server)) w
+step s (Forgets gone) w = withServer (forgets gone (w .server)) w
 step s (ServerRestarts clock lost) w = withServer (restarts s clock lost (w .server)) w
 
 -- by events, the latest first

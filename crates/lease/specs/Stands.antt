@@ -2,7 +2,9 @@
 -- Assumes nothing.
 use mathlib.Core.Path.{_≡_}
 use mathlib.Core.Bool.{Bool, true, false, cond}
+use mathlib.Core.List.{List}
 use Prim.Native.Nat.{ℕ, _+_, _^_, _≤_}
+use lib.Dec.{ltb}
 use Rattle.std.specs.Of.Vec.{vec-items}
 use Rattle.std.specs.declared.option.Option.{Option}
 use Rattle.std.specs.declared.option.Option.the-variants.{Some, None}
@@ -14,11 +16,13 @@ use Rattle.lease.specs.declared.answer.Found.the-variants.{Table, Nothing}
 use Rattle.lease.specs.declared.clock.Clock.{Clock}
 use Rattle.lease.specs.declared.fault.Fault.{Fault}
 use Rattle.lease.specs.declared.fault.Fault.the-variants.{CountExhausted}
+use Rattle.lease.specs.declared.lease.Lease.{Lease}
 use Rattle.lease.specs.declared.message.Request.{Request}
 use Rattle.lease.specs.declared.message.Grant.{Grant}
 use Rattle.lease.specs.declared.keeper.Keeper.{Keeper}
 use Rattle.lease.specs.declared.holder.Holder.{Holder}
 use Rattle.lease.specs.Settings.{Settings}
+use Rattle.lease.specs.Table as lent
 use Rattle.lease.specs.Table.{tableOf}
 use Rattle.lease.specs.World.{Server, Client, start, knowing-nothing}
 use Rattle.lease.specs.Run.{serverPasses, answer, serves, crashes, restarts, clientPasses, asked, hearing}
@@ -48,6 +52,17 @@ KeeperPassed (Err f) n k l = (l .settings ≡ k .settings) × (serverOf l ≡ se
 
 abbrev pub KeeperAnswered : Request → Answer → Keeper → Keeper → Type 0
 KeeperAnswered r x k l = (x ≡ answer (settingsOf (k .settings)) (serverOf k) r) × (l .settings ≡ k .settings) × (serverOf l ≡ serves (settingsOf (k .settings)) x (serverOf k))
+
+abbrev pub withTable : Server → lent.Table → Server
+withTable v t = record { clock = v .clock; up = v .up; silent = v .silent; table = t }
+
+-- a lease of the pool is written; another is passed over
+abbrev pub KeeperWrote : Lease → Keeper → Keeper → Type 0
+KeeperWrote x k l =
+    (l .settings ≡ k .settings) × (serverOf l ≡ withTable (serverOf k) (cond (ltb (x .address) (k .settings .addresses)) (lent.written x (serverOf k .table)) (serverOf k .table)))
+
+abbrev pub KeeperLoaded : List (Option Lease) → Keeper → Keeper → Type 0
+KeeperLoaded xs k l = (l .settings ≡ k .settings) × (serverOf l ≡ withTable (serverOf k) (lent.loaded (k .settings .addresses) xs))
 
 abbrev pub KeeperCrashed : Keeper → Keeper → Type 0
 KeeperCrashed k l = (l .settings ≡ k .settings) × (serverOf l ≡ crashes (serverOf k))

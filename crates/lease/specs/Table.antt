@@ -4,7 +4,7 @@ use mathlib.Core.Path.{_≡_}
 use mathlib.Core.Bool.{Bool, true, false, cond, _&&_, _||_, not}
 use mathlib.Core.List.{List}
 use Prim.Native.Nat.{ℕ, _+_, _<_}
-use lib.Dec.{eqb, leb}
+use lib.Dec.{eqb, leb, ltb}
 use lib.ListN.{getD}
 use Rattle.std.specs.declared.option.Option.{Option}
 use Rattle.std.specs.declared.option.Option.the-variants.{Some, None}
@@ -50,6 +50,19 @@ leased now life c a = record { address = a; client = c; expires = now + life }
 -- a lease is written in the place of its address's lease, and nothing else changes
 abbrev pub written : Lease → Table → Table
 written l t = at (l .address) (Some l) t
+
+-- leases that are over, at the addresses named, are forgotten
+abbrev pub forgotten : (now : ℕ) → (gone : ℕ → Bool) → Table → Table
+forgotten now gone t a = cond (gone a && vacant now (t a)) None (t a)
+
+-- a lease that stands at its own address
+abbrev pub atHome : (a : ℕ) → Option Lease → Option Lease
+atHome a None = None
+atHome a (Some l) = cond (eqb (l .address) a) (Some l) None
+
+-- the table that is loaded from a list of places, of which those beyond the pool, and leases in others' places, are passed over
+abbrev pub loaded : (pool : ℕ) → List (Option Lease) → Table
+loaded pool xs a = cond (ltb a pool) (atHome a (getD xs a None)) None
 
 -- no client has two live leases
 abbrev pub OneEach : (now : ℕ) → Table → Type 0

@@ -1,12 +1,17 @@
 ghost use mathlib.Core.Path.{_≡_};
 ghost use Rattle.std.specs.Vec.{made};
+ghost use Rattle.std.specs.Of.Vec.{vec-items};
 ghost use Rattle.lease.specs.Of.{settingsOf};
-ghost use Rattle.lease.specs.Stands.{isLost, KeeperMade, KeeperPassed, KeeperAnswered, KeeperCrashed, KeeperRestarted};
+ghost use Rattle.lease.specs.Settings.{life};
+ghost use Rattle.lease.specs.Table.{leased};
+ghost use Rattle.lease.specs.Run.{answer as answered};
+ghost use Rattle.lease.specs.Stands.{serverOf, isLost, KeeperMade, KeeperWrote, KeeperLoaded, KeeperPassed, KeeperAnswered, KeeperCrashed, KeeperRestarted};
 use crate::answer::Answer;
 use crate::answer::Found;
 use crate::clock::Clock;
 use crate::fault::Fault;
 use crate::keeper::Keeper;
+use crate::lease::Lease;
 use crate::message::Grant;
 use crate::message::Request;
 use crate::settings::Settings;
@@ -74,6 +79,71 @@ impl Keeper {
             }),
             Err(fault) => Answer::Refused(fault),
         }
+    }
+
+    // What a request would be answered now.
+    pub fn answer(&self, request: Request) -> Answer
+        ensures { λ r. ⌜ r ≡ answered (settingsOf (now (self .entry) .settings)) (serverOf (now (self .entry))) request ⌝ }
+    {
+        if !self.up {
+            return Answer::Unheard;
+        }
+        let None = self.silent else {
+            return Answer::Refused(Fault::TableLost);
+        };
+        match self.table.choose(self.clock, request) {
+            Some(address) => Answer::Granted(Grant {
+                client: request.client,
+                nonce: request.nonce,
+                address,
+            }),
+            None => Answer::Refused(Fault::NoneFree),
+        }
+    }
+
+    // The lease that a grant of now stands for.
+    pub fn lease(&self, grant: Grant) -> Lease
+        ensures { λ r. ⌜ r ≡ leased (now (self .entry) .clock .ticks) (life (settingsOf (now (self .entry) .settings))) (grant .client) (grant .address) ⌝ }
+    {
+        Lease {
+            address: grant.address,
+            client: grant.client,
+            expires: self.clock.ticks + u64::from(self.settings.life()),
+        }
+    }
+
+    // A lease is written.
+    pub fn restore(&mut self, lease: Lease)
+        ensures { λ _. ⌜ KeeperWrote lease (now (self .entry)) (now (self .exit)) ⌝ }
+    {
+        self.table.restore(lease);
+    }
+
+    // What stands at each address, in rising order.
+    pub fn places(&self) -> &[Option<Lease>]
+        ensures { λ r. ⌜ now r ≡ vec-items (now (self .entry) .table .leases) ⌝ }
+    {
+        self.table.places()
+    }
+
+    // The table is loaded from a list of places.
+    pub fn load(&mut self, places: &[Option<Lease>])
+        ensures { λ _. ⌜ KeeperLoaded (now (places .entry)) (now (self .entry)) (now (self .exit)) ⌝ }
+    {
+        self.table.load(places);
+    }
+
+    pub fn is_up(&self) -> bool
+        ensures { λ r. ⌜ r ≡ now (self .entry) .up ⌝ }
+    {
+        self.up
+    }
+
+    // The last tick of a silence.
+    pub fn silent(&self) -> Option<u64>
+        ensures { λ r. ⌜ r ≡ now (self .entry) .silent ⌝ }
+    {
+        self.silent
     }
 
     // Down: what was written stays.

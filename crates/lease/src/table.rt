@@ -4,7 +4,7 @@ ghost use Prim.Native.Nat.{ℕ, _<_};
 ghost use lib.Dec.{ltb};
 ghost use Rattle.std.specs.Of.Vec.{vec-len, vec-items};
 ghost use Rattle.std.specs.Vec.{made};
-ghost use Rattle.lease.specs.Table.{tableOf, empty, owned, vacant, free, written, OneEach, Placed};
+ghost use Rattle.lease.specs.Table.{tableOf, empty, owned, vacant, free, written, atHome, loaded, OneEach, Placed};
 ghost use Rattle.lease.specs.Choosing.{lowest, choose as chosen, Chosen, leasing, entered};
 use crate::clock::Clock;
 use crate::fault::Fault;
@@ -47,6 +47,23 @@ fn is_free(place: Option<Lease>, clock: Clock, client: u32) -> bool
     match place {
         Some(lease) => lease.client == client || lease.expires < clock.ticks,
         None => true,
+    }
+}
+
+// The lease that a list of places has at an address.
+fn at_home(places: &[Option<Lease>], address: u16) -> Option<Lease>
+    ensures { λ r. ⌜ r ≡ atHome address (tableOf (now (places .entry)) address) ⌝ }
+{
+    if address as usize >= places.len() {
+        return None;
+    }
+    let Some(lease) = places[address as usize] else {
+        return None;
+    };
+    if lease.address == address {
+        Some(lease)
+    } else {
+        None
     }
 }
 
@@ -144,6 +161,23 @@ impl Table {
         };
         self.restore(lease);
         Ok(lease)
+    }
+
+    // What stands at each address, in rising order.
+    pub fn places(&self) -> &[Option<Lease>]
+        ensures { λ r. ⌜ now r ≡ vec-items (now (self .entry) .leases) ⌝ }
+    {
+        self.leases.as_slice()
+    }
+
+    // The table is loaded from a list of places.
+    pub fn load(&mut self, places: &[Option<Lease>])
+        ensures table { λ _. ⌜ tableOf (vec-items (now (self .exit) .leases)) ≡ loaded (now (self .entry) .addresses) (now (places .entry)) ⌝ }
+        ensures addresses { λ _. ⌜ now (self .exit) .addresses ≡ now (self .entry) .addresses ⌝ }
+    {
+        for a in 0..self.addresses {
+            self.leases[a as usize] = at_home(places, a);
+        }
     }
 
     // No lease is left.

@@ -107,6 +107,7 @@ Refused x n (run.ClientHears c i) w = byStop x ⊥ (n ≤ c) ⊥
 Refused x n (run.ClientStarts c clock) w = byStop x (2 ^ 63 ≤ clock) (n ≤ c) ⊥
 Refused x n (run.ClientCrashes c) w = byStop x ⊥ (n ≤ c) ⊥
 Refused x n run.ServerCrashes w = ⊥
+Refused x n (run.Forgets gone) w = ⊥
 Refused x n (run.ServerRestarts clock lost) w = byStop x (2 ^ 63 ≤ clock) ⊥ ⊥
 
 -- the event happened, or was refused and nothing happened
