@@ -16,6 +16,8 @@ pub use answer::Answer;
 pub use answer::Found;
 pub use clock::Clock;
 pub use fault::Fault;
+pub use fault::FaultDebug;
+pub use fault::FaultPartialEq;
 pub use holder::Holder;
 pub use holding::Holding;
 pub use holding::Use;
