@@ -28,6 +28,9 @@ set-at ys i y d k h =
       | inr n ↦ getD-set-other ys i k y d n ∙ sym (cond-false (eqb k i) y (getD ys k d) (ne-eqb k i n))
     ]
 
+pub written-other : (t : Table) (l m : Lease) (b : ℕ) → l ≡ m → (b ≡ m .address → ⊥) → written l t b ≡ t b
+written-other t l m b e n = cond-false (eqb b (l .address)) (Some l) (t b) (ne-eqb b (l .address) (λ i. n (i ∙ ap (λ (x : Lease). x .address) e)))
+
 pub table-set : (xs : List (Option Lease)) (l : Lease) → l .address < length xs → tableOf (set xs (l .address) (Some l)) ≡ written l (tableOf xs)
 table-set xs l h = fun-ext (λ k. set-at xs (l .address) (Some l) None k h)
 

@@ -4,6 +4,8 @@ ghost use Prim.Native.Nat.{ℕ, _<_};
 ghost use lib.Dec.{ltb};
 ghost use Rattle.std.specs.Of.Vec.{vec-len, vec-items};
 ghost use Rattle.std.specs.Vec.{made};
+ghost use Rattle.std.specs.declared.result.Result.the-variants.{Ok};
+ghost use Rattle.lease.specs.declared.lease.Lease.{Lease};
 ghost use Rattle.lease.specs.Table.{tableOf, empty, owned, vacant, free, written, atHome, loaded, OneEach, Placed};
 ghost use Rattle.lease.specs.Choosing.{lowest, choose as chosen, Chosen, leasing, entered};
 use crate::clock::Clock;
@@ -149,6 +151,7 @@ impl Table {
         ensures value { λ r. ⌜ r ≡ leasing (clock .ticks) life request (chosen (now (self .entry) .addresses) (clock .ticks) (tableOf (vec-items (now (self .entry) .leases))) request) ⌝ }
         ensures table { λ r. ⌜ tableOf (vec-items (now (self .exit) .leases)) ≡ entered r (tableOf (vec-items (now (self .entry) .leases))) ⌝ }
         ensures addresses { λ _. ⌜ now (self .exit) .addresses ≡ now (self .entry) .addresses ⌝ }
+        ensures others { λ r. ⌜ ((l : Lease) (b : ℕ) → r ≡ Ok l → (b ≡ l .address → ⊥) → tableOf (vec-items (now (self .exit) .leases)) b ≡ tableOf (vec-items (now (self .entry) .leases)) b) ⌝ }
         ensures one_each { λ _. ⌜ (OneEach (clock .ticks) (tableOf (vec-items (now (self .entry) .leases))) → OneEach (clock .ticks) (tableOf (vec-items (now (self .exit) .leases)))) ⌝ }
     {
         let Some(address) = self.choose(clock, request) else {
