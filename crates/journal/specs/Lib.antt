@@ -1,0 +1,9 @@
+pub mod Place
+pub mod Table
+pub mod Row
+pub mod Device
+pub mod Append
+pub mod Crash
+pub mod Run
+pub mod Laws
+pub mod Witness

@@ -1,0 +1,13 @@
+// A lease table that survives crashes: records on a device of two rows, and what is recovered from them.
+mod laws;
+mod record;
+
+pub use laws::all_survive;
+pub use laws::answered_stays;
+pub use laws::append_stands;
+pub use laws::append_survives;
+pub use laws::last_is_cut;
+pub use laws::none_appears;
+pub use laws::none_twice;
+pub use laws::switches;
+pub use record::Record;
