@@ -6,3 +6,4 @@ pub mod Appends
 pub mod Runs
 pub mod Numbers
 pub mod Cases
+pub mod Codes

@@ -1,4 +1,5 @@
 pub mod Place
+pub mod Bytes
 pub mod Table
 pub mod Row
 pub mod Device
