@@ -7,3 +7,6 @@ pub mod Runs
 pub mod Numbers
 pub mod Cases
 pub mod Codes
+pub mod Scans
+pub mod Readings
+pub mod Restores

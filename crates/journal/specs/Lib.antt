@@ -4,6 +4,7 @@ pub mod Table
 pub mod Row
 pub mod Device
 pub mod Append
+pub mod Image
 pub mod Crash
 pub mod Run
 pub mod Laws

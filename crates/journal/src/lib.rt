@@ -1,8 +1,13 @@
 // A lease table that survives crashes: records on a device of two rows, and what is recovered from them.
 mod codec;
+mod journal;
 mod laws;
+mod open;
 mod record;
+mod scan;
+mod state;
 
+pub use journal::Journal;
 pub use laws::all_survive;
 pub use laws::answered_stays;
 pub use laws::append_stands;
@@ -12,3 +17,5 @@ pub use laws::none_appears;
 pub use laws::none_twice;
 pub use laws::switches;
 pub use record::Record;
+pub use state::Found;
+pub use state::Written;

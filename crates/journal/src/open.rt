@@ -1,0 +1,144 @@
+ghost use mathlib.Core.Path.{_≡_};
+ghost use mathlib.Core.Bool.{_&&_, cond, false};
+ghost use mathlib.Core.List.{[], _∷_};
+ghost use Prim.Native.Nat.{ℕ, _+_, _*_, _/_, _<_, _≤_};
+ghost use lib.Dec.{leb, ltb};
+ghost use lib.ListN.{length, getD};
+ghost use Rattle.std.specs.Holes.{between};
+ghost use Rattle.std.specs.Of.Vec.{vec-cap, vec-items, vec-len};
+ghost use Rattle.std.specs.declared.option.Option.the-variants.{None};
+ghost use Rattle.std.specs.Vec.{made};
+ghost use Rattle.journal.specs.declared.state.Found.the-variants.{New, Lost};
+ghost use Rattle.journal.specs.Device.{Device, Row0, Row1, newerOf};
+ghost use Rattle.journal.specs.Image.{Cut, Knows, Recovered, deviceOf, sideOf, tableIn};
+ghost use Rattle.journal.specs.Bytes.{placeFrom, placeOf};
+ghost use Rattle.journal.specs.Row.{putIn, tableOf};
+use crate::record::Record;
+use crate::scan::RowScan;
+use crate::scan::scan_row;
+use crate::state::Found;
+use crate::state::RowState;
+use lease::Lease;
+
+// What a reading gives, as the journal keeps it.
+#[derive(Clone, Copy)]
+struct Reading {
+    rows: [RowState; 2],
+    active: usize,
+    highest: u64,
+    found: Found,
+}
+
+impl RowState {
+    // At least one record, and as many as its first says.
+    fn is_whole(self) -> bool
+        ensures { λ r. ⌜ r ≡ (leb 1 (self .count) && leb (self .base) (self .count)) ⌝ }
+    {
+        self.count >= 1 && self.count >= usize::from(self.base)
+    }
+}
+
+// Of the rows that have a record, the one with the higher first sequence number.
+fn newer(a: RowState, b: RowState) -> usize
+    ensures side { λ r. ⌜ sideOf r ≡ newerOf (leb 1 (a .count)) (leb 1 (b .count)) (ltb (a .first) (b .first)) ⌝ }
+    ensures within { λ r. ⌜ r < 2 ⌝ }
+{
+    if a.count == 0 {
+        return 1;
+    }
+    if b.count >= 1 && b.first > a.first {
+        return 1;
+    }
+    0
+}
+
+// With no row whole: zeros alone are new, anything else is lost.
+fn without_table(blank0: bool, blank1: bool) -> Found
+    ensures { λ r. ⌜ r ≡ cond (blank0 && blank1) New Lost ⌝ }
+{
+    if blank0 && blank1 {
+        return Found::New;
+    }
+    Found::Lost
+}
+
+// The newer row if it is whole, else the older if it is whole; with neither, the next record begins row 0, as if row 1 were full.
+fn choose(a: RowScan, b: RowScan) -> Reading
+    ensures { λ r. ⌜ ((d : Device) → Knows (d Row0) 4096 a → Knows (d Row1) 4096 b → Recovered d (r .rows) (r .active) (r .highest) (r .found)) ⌝ }
+{
+    let highest = a.highest.max(b.highest);
+    let rows = [a.row, b.row];
+    let active = newer(a.row, b.row);
+    if rows[active].is_whole() {
+        return Reading {
+            rows,
+            active,
+            highest,
+            found: Found::Table,
+        };
+    }
+    let active = 1 - active;
+    if rows[active].is_whole() {
+        return Reading {
+            rows,
+            active,
+            highest,
+            found: Found::Table,
+        };
+    }
+    let full = RowState {
+        first: 0,
+        base: 0,
+        count: 4096,
+    };
+    Reading {
+        rows: [a.row, full],
+        active: 1,
+        highest,
+        found: without_table(a.blank, b.blank),
+    }
+}
+
+fn read(device: &[[u8; 28]]) -> Reading
+    requires { ⌜ length (now device) ≡ 8192 ⌝ }
+    ensures { λ r. ⌜ Recovered (deviceOf (now (device .entry))) (r .rows) (r .active) (r .highest) (r .found) ⌝ }
+{
+    choose(scan_row(device, 0), scan_row(device, 4096))
+}
+
+fn load(device: &mut Vec<[u8; 28]>, bytes: &[u8])
+    requires { ⌜ vec-len (now device) ≡ 0 ⌝ ∗ ⌜ 8192 ≤ vec-cap (now device) ⌝ ∗ ⌜ length (now bytes) ≡ 229376 ⌝ }
+    ensures { λ _. ⌜ Cut (now (bytes .entry)) (vec-items (now (device .exit))) ⌝ }
+{
+    for i in 0..8192 {
+        let mut place = [0u8; 28];
+        place.copy_from_slice(&bytes[i * 28..i * 28 + 28]);
+        device.push_reserved(place);
+    }
+}
+
+// Sets each lease of the row's first records in its place of the table, if it has one there.
+fn restore(device: &[[u8; 28]], from: usize, count: usize, table: &mut [Option<Lease>])
+    requires { ⌜ from + count ≤ length (now device) ⌝ }
+    ensures { λ _. ⌜ ((a : ℕ) → a < length (now (table .exit)) → getD (now (table .exit)) a None ≡ tableOf (λ k. placeOf (getD (now (device .entry)) (from + k) [])) count a) ⌝ }
+{
+    for i in 0..table.len() {
+        table[i] = None;
+    }
+    for k in 0..count {
+        put_record(table, Record::decode(&device[from + k]));
+    }
+}
+
+// A lease whose address the table does not have is passed over.
+fn put_record(table: &mut [Option<Lease>], record: Option<Record>)
+    ensures { λ _. ⌜ ((a : ℕ) → a < length (now (table .exit)) → getD (now (table .exit)) a None ≡ putIn (placeFrom «record» false) (tableIn (now (table .entry))) a) ⌝ }
+{
+    let Some(found) = record else {
+        return;
+    };
+    let at = usize::from(found.lease.address);
+    if at < table.len() {
+        table[at] = Some(found.lease);
+    }
+}
