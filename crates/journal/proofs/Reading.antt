@@ -5,7 +5,7 @@ use mathlib.Core.Bool.{Bool, true, false, cond, _&&_}
 use Prim.Native.Nat.{ℕ, zero, suc, _+_, _<_, _≤_}
 use native.Mathlib.Omega.{arith}
 use lib.Dec.{eqb, leb}
-use Rattle.std.proofs.shelf.Tests.{cond-true, cond-false, both-ways, eqb-true, eq-eqb, ne-eqb, le-leb, lt-leb, and-from, and-left, and-right, cases-eq, cases-lt}
+use Rattle.std.proofs.shelf.Tests.{cond-both, cond-true, cond-false, both-ways, eqb-true, eq-eqb, ne-eqb, le-leb, lt-leb, and-from, and-left, and-right, cases-eq, cases-lt}
 use Rattle.std.specs.declared.option.Option.the-variants.{Some, None}
 use Rattle.journal.specs.declared.record.Record.{Record}
 use Rattle.journal.specs.Place.{Place, Blank, Torn, Holds, height, baseOf}
@@ -50,6 +50,13 @@ reads-is row (suc m) n l h p =
           | inl z ↦ and-right _ _ (subst (λ (i : ℕ). numbers (first row + i) (row i) ≡ false) z (p (omega arith)))
           | inr z ↦ and-left _ _ (ne-eqb (reads row m) m (omega arith))
         ]
+
+pub reads-le : (row : Row) (n : ℕ) → reads row n ≤ n
+unfolding reads
+reads-le row zero = omega arith
+reads-le row (suc n) =
+    let z : reads row n ≤ n = reads-le row n in
+    cond-both (eqb (reads row n) n && numbers (first row + n) (row n)) (suc n) (reads row n) (λ (k : ℕ). k ≤ suc n) (λ e. omega arith) (λ e. omega arith)
 
 module _ (R : ℕ) (row : Row) (n f b : ℕ) (g : Begun R row n f b) where
   pub begun-first : 0 < n → first row ≡ f
@@ -121,7 +128,7 @@ putIn-same Blank t u h a = h a
 putIn-same Torn t u h a = h a
 putIn-same (Holds r) t u h a = ap (cond (eqb a (r .lease .address)) (Some (r .lease))) (h a)
 
-table-same : (row old : Row) (n : ℕ) → ((k : ℕ) → k < n → row k ≡ old k) → (a : ℕ) → tableOf row n a ≡ tableOf old n a
+pub table-same : (row old : Row) (n : ℕ) → ((k : ℕ) → k < n → row k ≡ old k) → (a : ℕ) → tableOf row n a ≡ tableOf old n a
 unfolding tableOf
 table-same row old zero h a = refl
 table-same row old (suc n) h a =

@@ -2,20 +2,26 @@
 use mathlib.Core.Path.{_≡_, refl, sym, ap, _∙_}
 use mathlib.Core.Bool.{Bool, true, false, cond}
 use mathlib.Core.List.{List, []}
-use Prim.Native.Nat.{ℕ, suc, _+_, _<_}
+use Prim.Native.Nat.{ℕ, zero, suc, _+_, _*_, _<_, _≤_}
 use native.Mathlib.Omega.{arith}
 use native.Mathlib.Numerals.{add-one}
-use lib.Dec.{eqb}
+use lib.Dec.{eqb, ltb}
 use lib.ListN.{length, getD}
 use Rattle.std.specs.declared.option.Option.{Option}
 use Rattle.std.specs.declared.option.Option.the-variants.{Some, None}
 use Rattle.lease.specs.declared.lease.Lease.{Lease}
 use Rattle.journal.specs.declared.record.Record.{Record}
 use Rattle.journal.specs.Place.{Place, Blank, Torn}
-use Rattle.journal.specs.Bytes.{placeFrom}
+use Rattle.journal.specs.Bytes.{placeFrom, placeOf}
 use Rattle.journal.specs.Table.{Table}
-use Rattle.journal.specs.Row.{Row, putIn, tableOf}
-use Rattle.journal.specs.Image.{tableIn}
+use Rattle.journal.specs.Row.{Row, reads, putIn, tableOf}
+use Rattle.journal.specs.declared.state.RowState.{RowState}
+use Rattle.journal.specs.declared.state.Found.{Found}
+use Rattle.journal.specs.declared.state.Found.the-variants as found
+use Rattle.journal.specs.Device.{Device, Choice, Cursor, cursorAt, leasesAt, leases}
+use Rattle.journal.specs.Image.{tableIn, sideOf, deviceOf, unread, Recovered, countOf}
+use Rattle.std.proofs.shelf.Tests.{cond-true, lt-ltb}
+use Rattle.journal.proofs.Reading.{table-same, reads-le}
 
 put-more : (o : Option Record) (z : Bool) (t u : Table) (a : ℕ) → t a ≡ u a → putIn (placeFrom o false) t a ≡ putIn (placeFrom o z) u a
 put-more None true t u a e = e
@@ -29,3 +35,27 @@ unfolding tableOf
 restored-more row k t v o z s e h p a l =
     p a l ∙ put-more o z (tableIn t) (tableOf row k) a (h a (omega arith)) ∙ ap (λ (q : Place). putIn q (tableOf row k) a) e
     ∙ sym (ap (λ (i : ℕ). tableOf row i a) (add-one k))
+
+-- the records that are read make the table that is recovered
+place-of : (bs : List (List ℕ)) (i k : ℕ) → i < 2 → k < 4096 → placeOf (getD bs (i * 4096 + k) []) ≡ deviceOf bs (sideOf i) k
+place-of bs zero k l m = ap (λ (j : ℕ). placeOf (getD bs j [])) {x = 0 * 4096 + k} {y = k} (omega arith) ∙ sym (cond-true _ _ _ (lt-ltb k 4096 m))
+place-of bs (suc zero) k l m = ap (λ (j : ℕ). placeOf (getD bs j [])) {x = 1 * 4096 + k} {y = 4096 + k} (omega arith) ∙ sym (cond-true _ _ _ (lt-ltb k 4096 m))
+place-of bs (suc (suc i)) k l m = absurd (omega arith)
+
+pub count-few : (d : Device) (rows : List RowState) (i h : ℕ) (f : Found) → Recovered d rows i h f → countOf f (getD rows i unread .count) ≤ 4096
+count-few d rows i h found.New r = omega arith
+count-few d rows i h found.Lost r = omega arith
+count-few d rows i h found.Table r =
+    let e : getD rows i unread .count ≡ reads (d (sideOf i)) 4096 = ap (λ (c : Cursor). c .count) (r .cursor ∙ ap (cursorAt 4096 d) (sym (r .choice))) in
+    let z : reads (d (sideOf i)) 4096 ≤ 4096 = reads-le (d (sideOf i)) 4096 in omega arith
+
+pub restored : (bs : List (List ℕ)) (rows : List RowState) (i h : ℕ) (f : Found) → Recovered (deviceOf bs) rows i h f → (a : ℕ) →
+    tableOf (λ k. placeOf (getD bs (i * 4096 + k) [])) (countOf f (getD rows i unread .count)) a ≡ leases 4096 (deviceOf bs) a
+unfolding tableOf
+restored bs rows i h found.New r a = ap (λ (c : Choice). leasesAt 4096 (deviceOf bs) c a) (r .choice)
+restored bs rows i h found.Lost r a = ap (λ (c : Choice). leasesAt 4096 (deviceOf bs) c a) (r .choice)
+restored bs rows i h found.Table r a =
+    let few : getD rows i unread .count ≤ 4096 = count-few (deviceOf bs) rows i h found.Table r in
+    table-same (λ k. placeOf (getD bs (i * 4096 + k) [])) (deviceOf bs (sideOf i)) (getD rows i unread .count) (λ k l. place-of bs i k (r .within) (omega arith)) a
+    ∙ ap (λ (n : ℕ). tableOf (deviceOf bs (sideOf i)) n a) (ap (λ (c : Cursor). c .count) (r .cursor ∙ ap (cursorAt 4096 (deviceOf bs)) (sym (r .choice))))
+    ∙ ap (λ (c : Choice). leasesAt 4096 (deviceOf bs) c a) (r .choice)

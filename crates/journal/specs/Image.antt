@@ -95,3 +95,9 @@ pub record Cut (bytes : List ℕ) (places : List (List ℕ)) : Type 0 where
 abbrev pub OpenRefused : OpenError → (bytes room : ℕ) → Type 0
 OpenRefused WrongLength n m = n ≡ 229376 → ⊥
 OpenRefused NoRoom n m = (n ≡ 229376) × (m < 8192)
+
+-- how many records make the table
+abbrev pub countOf : Found → ℕ → ℕ
+countOf found.New n = 0
+countOf found.Lost n = 0
+countOf found.Table n = n

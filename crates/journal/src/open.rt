@@ -6,17 +6,20 @@ ghost use lib.Dec.{leb, ltb};
 ghost use lib.ListN.{length, getD};
 ghost use Rattle.std.specs.Holes.{between};
 ghost use Rattle.std.specs.Of.Vec.{vec-cap, vec-items, vec-len};
-ghost use Rattle.std.specs.declared.option.Option.the-variants.{None};
+ghost use Rattle.std.specs.declared.option.Option.the-variants.{None, Some};
+ghost use Rattle.std.specs.Results.{Cases};
 ghost use Rattle.std.specs.Vec.{made};
 ghost use Rattle.journal.specs.declared.state.Found.the-variants.{New, Lost};
-ghost use Rattle.journal.specs.Device.{Device, Row0, Row1, newerOf};
-ghost use Rattle.journal.specs.Image.{Cut, Knows, Recovered, deviceOf, sideOf, tableIn};
+ghost use Rattle.journal.specs.Device.{Device, Row0, Row1, leases, newerOf};
+ghost use Rattle.journal.specs.Image.{Cut, Knows, OpenRefused, Recovered, countOf, deviceOf, sideOf, tableIn, unread};
 ghost use Rattle.journal.specs.Bytes.{placeFrom, placeOf};
 ghost use Rattle.journal.specs.Row.{putIn, tableOf};
+use crate::journal::Journal;
 use crate::record::Record;
 use crate::scan::RowScan;
 use crate::scan::scan_row;
 use crate::state::Found;
+use crate::state::OpenError;
 use crate::state::RowState;
 use lease::Lease;
 
@@ -27,6 +30,19 @@ struct Reading {
     active: usize,
     highest: u64,
     found: Found,
+}
+
+impl Reading {
+    // How many records make the table.
+    fn count(self) -> usize
+        requires { ⌜ self .active < 2 ⌝ }
+        ensures { λ r. ⌜ r ≡ countOf (self .found) (getD (self .rows) (self .active) unread .count) ⌝ }
+    {
+        match self.found {
+            Found::Table => self.rows[self.active].count,
+            Found::New | Found::Lost => 0,
+        }
+    }
 }
 
 impl RowState {
@@ -140,5 +156,79 @@ fn put_record(table: &mut [Option<Lease>], record: Option<Record>)
     let at = usize::from(found.lease.address);
     if at < table.len() {
         table[at] = Some(found.lease);
+    }
+}
+
+// How many bytes a device has.
+pub fn device_bytes() -> usize
+    ensures { λ r. ⌜ r ≡ 229376 ⌝ }
+{
+    229_376
+}
+
+// How many places a device has, 28 bytes each.
+pub fn device_places() -> usize
+    ensures { λ r. ⌜ r ≡ 8192 ⌝ }
+{
+    8192
+}
+
+impl Journal {
+    // A device's bytes, read into room for its places. Nothing is allocated here or later.
+    pub fn open(room: Vec<[u8; 28]>, bytes: &[u8]) -> Result<Journal, OpenError>
+        ensures { λ r. ⌜ Cases r (λ j. Cut (now (bytes .entry)) (vec-items (j .device)) × Recovered (deviceOf (vec-items (j .device))) (j .rows) (j .active) (j .highest) (j .found)) (λ e. OpenRefused e (length (now (bytes .entry))) (vec-cap room)) ⌝ }
+    {
+        if bytes.len() != 229_376 {
+            return Err(OpenError::WrongLength);
+        }
+        if room.capacity() < 8192 {
+            return Err(OpenError::NoRoom);
+        }
+        let mut device = room;
+        device.clear();
+        load(&mut device, bytes);
+        let reading = read(&device);
+        let rows = reading.rows;
+        Ok(Journal {
+            device,
+            rows,
+            active: reading.active,
+            highest: reading.highest,
+            found: reading.found,
+        })
+    }
+
+    // Reads the device anew, as after a crash, and fills the table, which has a place for each address of the pool.
+    pub fn recover(&mut self, table: &mut [Option<Lease>]) -> Found
+        ensures device { λ _. ⌜ vec-items (now (self .exit) .device) ≡ vec-items (now (self .entry) .device) ⌝ }
+        ensures journal { λ _. ⌜ Recovered (deviceOf (vec-items (now (self .exit) .device))) (now (self .exit) .rows) (now (self .exit) .active) (now (self .exit) .highest) (now (self .exit) .found) ⌝ }
+        ensures found { λ r. ⌜ r ≡ now (self .exit) .found ⌝ }
+        ensures table { λ _. ⌜ ((a : ℕ) → a < length (now (table .exit)) → getD (now (table .exit)) a None ≡ leases 4096 (deviceOf (vec-items (now (self .exit) .device))) a) ⌝ }
+    {
+        let reading = read(&self.device);
+        restore(&self.device, reading.active * 4096, reading.count(), table);
+        let rows = reading.rows;
+        self.rows = rows;
+        self.active = reading.active;
+        self.highest = reading.highest;
+        self.found = reading.found;
+        reading.found
+    }
+
+    // What the last reading found; a table once a lease is written.
+    pub fn found(&self) -> Found
+        ensures { λ r. ⌜ r ≡ now (self .entry) .found ⌝ }
+    {
+        self.found
+    }
+
+    // The bytes of a place, for whoever makes it durable.
+    pub fn place(&self, k: usize) -> Option<[u8; 28]>
+        ensures { λ r. ⌜ r ≡ cond (ltb k 8192) (Some (getD (vec-items (now (self .entry) .device)) k [])) None ⌝ }
+    {
+        if k < 8192 {
+            return Some(self.device[k]);
+        }
+        None
     }
 }
