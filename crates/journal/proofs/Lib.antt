@@ -10,3 +10,4 @@ pub mod Codes
 pub mod Scans
 pub mod Readings
 pub mod Restores
+pub mod Memories

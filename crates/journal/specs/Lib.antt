@@ -5,6 +5,7 @@ pub mod Row
 pub mod Device
 pub mod Append
 pub mod Image
+pub mod Memory
 pub mod Crash
 pub mod Run
 pub mod Laws

@@ -1,4 +1,5 @@
 // A lease table that survives crashes: records on a device of two rows, and what is recovered from them.
+mod append;
 mod codec;
 mod journal;
 mod laws;

@@ -1,0 +1,59 @@
+ghost use mathlib.Core.Path.{_≡_};
+ghost use mathlib.Core.List.{[], _∷_};
+ghost use Prim.Native.Nat.{ℕ, _+_, _*_, _^_, _<_, _≤_, max};
+ghost use lib.ListN.{length, getD, set};
+ghost use ghost.Atoms.{sem};
+ghost use denote.Array.{Array};
+ghost use denote.Builtin.{u8 as byte};
+ghost use denote.Follow.{follows};
+ghost use denote.Ref.{name};
+ghost use Rattle.std.specs.Changed.{with-item};
+ghost use Rattle.std.specs.Of.Vec.{vec-items, vec-len};
+ghost use Rattle.journal.specs.contracts.journal.Journal.{the-row};
+ghost use Rattle.journal.specs.declared.state.Found.the-variants.{Table};
+ghost use Rattle.journal.specs.Bytes.{encoded};
+ghost use Rattle.journal.specs.Image.{index, unread};
+ghost use Rattle.journal.specs.Memory.{cursorOf, nextRecord, went};
+use crate::journal::Journal;
+use crate::record::Record;
+use crate::state::Found;
+use crate::state::RowState;
+use lease::Lease;
+
+impl Journal {
+    // The place of the next record, lent to be written.
+    fn next_place(&mut self) -> &mut [u8; 28]
+        requires { ⌜ getD (now self .rows) (now self .active) unread .count < 4096 ⌝ }
+        ensures follows { λ r. sem 𝓤 H A (follows the-row (Array byte 28) (name (self .entry)) (name r) (λ w. record { device = with-item (now (self .entry) .device) (now (self .entry) .active * 4096 + getD (now (self .entry) .rows) (now (self .entry) .active) unread .count) w; rows = now (self .entry) .rows; active = now (self .entry) .active; highest = now (self .entry) .highest; found = now (self .entry) .found; sized = now (self .entry) .sized; one = now (self .entry) .one })) }
+    {
+        let a = self.active;
+        let i = a * 4096 + self.rows[a].count;
+        &mut self.device[i]
+    }
+
+    // Writes a lease into the next place of the active row.
+    fn write(&mut self, lease: Lease)
+        requires room { ⌜ cursorOf (now self) .count < 4096 ⌝ }
+        requires early { ⌜ cursorOf (now self) .first + cursorOf (now self) .count < 2 ^ 63 ⌝ }
+        ensures bytes { λ _. ⌜ vec-items (now (self .exit) .device) ≡ set (vec-items (now (self .entry) .device)) (index (cursorOf (now (self .entry)) .side) (cursorOf (now (self .entry)) .count)) (encoded (nextRecord (cursorOf (now (self .entry))) lease)) ⌝ }
+        ensures cursor { λ _. ⌜ cursorOf (now (self .exit)) ≡ went (cursorOf (now (self .entry))) ⌝ }
+        ensures active { λ _. ⌜ now (self .exit) .active ≡ now (self .entry) .active ⌝ }
+        ensures found { λ _. ⌜ now (self .exit) .found ≡ Table ⌝ }
+    {
+        let a = self.active;
+        let row = self.rows[a];
+        let record = Record {
+            sequence: row.first + row.count as u64,
+            base: row.base,
+            lease,
+        };
+        record.encode(self.next_place());
+        self.rows[a] = RowState {
+            first: row.first,
+            base: row.base,
+            count: row.count + 1,
+        };
+        self.highest = self.highest.max(record.sequence);
+        self.found = Found::Table;
+    }
+}
