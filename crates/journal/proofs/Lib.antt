@@ -11,3 +11,4 @@ pub mod Scans
 pub mod Readings
 pub mod Restores
 pub mod Memories
+pub mod Stores

@@ -5,6 +5,9 @@ use mathlib.Core.Bool.{Bool, true, false, cond}
 use mathlib.Core.List.{List, [], _∷_, _++_}
 use Prim.Native.Nat.{ℕ, zero, suc, _+_, _<_, _≤_}
 use native.Mathlib.Omega.{arith}
+use native.Mathlib.Nat.{le-of-eq}
+use native.Mathlib.Numerals.{add-one}
+use Rattle.std.specs.Options.{isSome}
 use lib.Dec.{eqb, leb}
 use lib.ListN.{length, length-append}
 use Rattle.std.proofs.shelf.Tests.{cond-both, cond-true, cond-false, both-ways, eqb-true, eq-eqb, ne-eqb, leb-false, lt-leb, cases-eq}
@@ -106,6 +109,34 @@ length-keeping now t (suc n) = go (keptOf now (t n)) (length-keeping now t n)
     go : (e : Option Lease) → length (keeping now t n) ≤ n → length (added (keeping now t n) e) ≤ suc n
     go None h = omega arith
     go (Some l) h = let z : length (keeping now t n ++ (l ∷ [])) ≡ length (keeping now t n) + 1 = length-append (keeping now t n) (l ∷ []) in omega arith
+
+pub length-added : (xs : List Lease) (o : Option Lease) → length (added xs o) ≡ cond (isSome o) (length xs + 1) (length xs)
+length-added xs None = refl
+length-added xs (Some l) = length-append xs (l ∷ [])
+
+-- one address more
+pub keeping-more : (now : ℕ) (t : Table) (n : ℕ) → keeping now t (n + 1) ≡ added (keeping now t n) (keptOf now (t n))
+unfolding keeping
+keeping-more now t n = ap (keeping now t) (add-one n)
+
+pub keeping-start : (now : ℕ) (t : Table) → keeping now t 0 ≡ []
+unfolding keeping
+keeping-start now t = refl
+
+pub keeping-le : (now : ℕ) (t : Table) (i n : ℕ) → i ≤ n → length (keeping now t i) ≤ length (keeping now t n)
+unfolding keeping
+keeping-le now t i zero l = ap-le (omega arith)
+  where
+    ap-le : i ≡ 0 → length (keeping now t i) ≤ length (keeping now t 0)
+    ap-le e = le-of-eq (ap (λ (k : ℕ). length (keeping now t k)) e)
+keeping-le now t i (suc n) l =
+    elim (cases-eq i (suc n)) [
+      | inl e ↦ le-of-eq (ap (λ (k : ℕ). length (keeping now t k)) e)
+      | inr e ↦
+          let z : length (keeping now t i) ≤ length (keeping now t n) = keeping-le now t i n (omega arith) in
+          let y : length (added (keeping now t n) (keptOf now (t n))) ≡ cond (isSome (keptOf now (t n))) (length (keeping now t n) + 1) (length (keeping now t n)) = length-added (keeping now t n) (keptOf now (t n)) in
+          subst (λ (k : ℕ). length (keeping now t i) ≤ k) (sym y) (cond-both (isSome (keptOf now (t n))) (length (keeping now t n) + 1) (length (keeping now t n)) (λ (k : ℕ). length (keeping now t i) ≤ k) (λ q. omega arith) (λ q. omega arith))
+    ]
 
 pub keeping-none : (now : ℕ) (t : Table) (n : ℕ) → ((a : ℕ) → t a ≡ None) → keeping now t n ≡ []
 unfolding keeping

@@ -1,6 +1,7 @@
 ghost use mathlib.Core.Path.{_≡_};
+ghost use mathlib.Core.Bool.{cond};
 ghost use mathlib.Core.List.{[], _∷_};
-ghost use Prim.Native.Nat.{ℕ, _+_, _*_, _^_, _<_, _≤_, max};
+ghost use Prim.Native.Nat.{ℕ, suc, _+_, _*_, _^_, _<_, _≤_, max};
 ghost use lib.ListN.{length, getD, set};
 ghost use ghost.Atoms.{sem};
 ghost use denote.Array.{Array};
@@ -12,8 +13,13 @@ ghost use Rattle.std.specs.Of.Vec.{vec-items, vec-len};
 ghost use Rattle.journal.specs.contracts.journal.Journal.{the-row};
 ghost use Rattle.journal.specs.declared.state.Found.the-variants.{Table};
 ghost use Rattle.journal.specs.Bytes.{encoded};
-ghost use Rattle.journal.specs.Image.{index, unread};
-ghost use Rattle.journal.specs.Memory.{cursorOf, nextRecord, went};
+ghost use Rattle.journal.specs.Image.{index, tableIn, unread};
+ghost use Rattle.journal.specs.Memory.{cursorOf, nextRecord, placesOf, putWith, storedWith, went, wentWith};
+ghost use Rattle.journal.specs.Append.{put};
+ghost use Rattle.journal.specs.Device.{other as across};
+ghost use Rattle.journal.specs.Place.{Holds};
+ghost use Rattle.journal.specs.Table.{keeping, keptOf};
+ghost use Rattle.std.specs.Options.{isSome};
 use crate::journal::Journal;
 use crate::record::Record;
 use crate::state::Found;
@@ -36,6 +42,7 @@ impl Journal {
         requires room { ⌜ cursorOf (now self) .count < 4096 ⌝ }
         requires early { ⌜ cursorOf (now self) .first + cursorOf (now self) .count < 2 ^ 63 ⌝ }
         ensures bytes { λ _. ⌜ vec-items (now (self .exit) .device) ≡ set (vec-items (now (self .entry) .device)) (index (cursorOf (now (self .entry)) .side) (cursorOf (now (self .entry)) .count)) (encoded (nextRecord (cursorOf (now (self .entry))) lease)) ⌝ }
+        ensures device { λ _. ⌜ placesOf (now (self .exit)) ≡ put (cursorOf (now (self .entry)) .side) (cursorOf (now (self .entry)) .count) (Holds (nextRecord (cursorOf (now (self .entry))) lease)) (placesOf (now (self .entry))) ⌝ }
         ensures cursor { λ _. ⌜ cursorOf (now (self .exit)) ≡ went (cursorOf (now (self .entry))) ⌝ }
         ensures active { λ _. ⌜ now (self .exit) .active ≡ now (self .entry) .active ⌝ }
         ensures found { λ _. ⌜ now (self .exit) .found ≡ Table ⌝ }
@@ -56,4 +63,66 @@ impl Journal {
         self.highest = self.highest.max(record.sequence);
         self.found = Found::Table;
     }
+
+    fn write_some(&mut self, lease: Option<Lease>)
+        requires room { ⌜ cursorOf (now self) .count < 4096 ⌝ }
+        requires early { ⌜ cursorOf (now self) .first + cursorOf (now self) .count < 2 ^ 63 ⌝ }
+        ensures bytes { λ _. ⌜ vec-items (now (self .exit) .device) ≡ storedWith lease (cursorOf (now (self .entry))) (vec-items (now (self .entry) .device)) ⌝ }
+        ensures device { λ _. ⌜ placesOf (now (self .exit)) ≡ putWith lease (cursorOf (now (self .entry))) (placesOf (now (self .entry))) ⌝ }
+        ensures cursor { λ _. ⌜ cursorOf (now (self .exit)) ≡ wentWith lease (cursorOf (now (self .entry))) ⌝ }
+        ensures active { λ _. ⌜ now (self .exit) .active ≡ now (self .entry) .active ⌝ }
+    {
+        if let Some(some) = lease {
+            self.write(some);
+        }
+    }
+
+    // Begins the other row: it is the active one, numbered above all that fits, and has no record yet.
+    fn turn(&mut self, base: u16)
+        requires { ⌜ now self .highest < 2 ^ 63 ⌝ }
+        ensures bytes { λ _. ⌜ vec-items (now (self .exit) .device) ≡ vec-items (now (self .entry) .device) ⌝ }
+        ensures cursor { λ _. ⌜ cursorOf (now (self .exit)) ≡ record { side = across (cursorOf (now (self .entry)) .side); first = suc (now (self .entry) .highest); count = 0; base = base; highest = now (self .entry) .highest } ⌝ }
+    {
+        let other = 1 - self.active;
+        let first = self.highest + 1;
+        self.rows[other] = RowState {
+            first,
+            base,
+            count: 0,
+        };
+        self.active = other;
+    }
+}
+
+fn kept(clock: u64, entry: Option<Lease>) -> Option<Lease>
+    ensures { λ r. ⌜ r ≡ keptOf clock entry ⌝ }
+{
+    let Some(lease) = entry else {
+        return None;
+    };
+    if clock <= lease.expires {
+        return Some(lease);
+    }
+    None
+}
+
+// How many leases of a table are kept.
+fn count_kept(clock: u64, table: &[Option<Lease>]) -> usize
+    ensures { λ r. ⌜ r ≡ length (keeping clock (tableIn (now (table .entry))) (length (now (table .entry)))) ⌝ }
+{
+    let mut n = 0;
+    for i in 0..table.len() {
+        n = one_more(n, kept(clock, table[i]));
+    }
+    n
+}
+
+fn one_more(n: usize, lease: Option<Lease>) -> usize
+    requires { ⌜ n + 1 < 2 ^ 64 ⌝ }
+    ensures { λ r. ⌜ r ≡ cond (isSome lease) (n + 1) n ⌝ }
+{
+    if lease.is_some() {
+        return n + 1;
+    }
+    n
 }
