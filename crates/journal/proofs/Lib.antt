@@ -12,3 +12,4 @@ pub mod Readings
 pub mod Restores
 pub mod Memories
 pub mod Stores
+pub mod Copies

@@ -14,7 +14,7 @@ ghost use Rattle.journal.specs.contracts.journal.Journal.{the-row};
 ghost use Rattle.journal.specs.declared.state.Found.the-variants.{Table};
 ghost use Rattle.journal.specs.Bytes.{encoded};
 ghost use Rattle.journal.specs.Image.{index, tableIn, unread};
-ghost use Rattle.journal.specs.Memory.{cursorOf, nextRecord, placesOf, putWith, storedWith, went, wentWith};
+ghost use Rattle.journal.specs.Memory.{Copied, cursorOf, nextRecord, placesOf, putWith, storedWith, went, wentWith};
 ghost use Rattle.journal.specs.Append.{put};
 ghost use Rattle.journal.specs.Device.{other as across};
 ghost use Rattle.journal.specs.Place.{Holds};
@@ -91,6 +91,22 @@ impl Journal {
             count: 0,
         };
         self.active = other;
+    }
+}
+
+impl Journal {
+    // Writes the leases of a table that are kept into a row that was just begun.
+    fn copy(&mut self, clock: u64, table: &[Option<Lease>])
+        requires fresh { ⌜ cursorOf (now self) .count ≡ 0 ⌝ }
+        requires above { ⌜ cursorOf (now self) .first ≡ suc (cursorOf (now self) .highest) ⌝ }
+        requires few { ⌜ length (now table) < 4096 ⌝ }
+        requires early { ⌜ cursorOf (now self) .first + length (keeping clock (tableIn (now table)) (length (now table))) < 2 ^ 63 ⌝ }
+        ensures copied { λ _. ⌜ Copied (cursorOf (now (self .entry))) (vec-items (now (self .entry) .device)) (placesOf (now (self .entry))) (keeping clock (tableIn (now (table .entry))) (length (now (table .entry)))) (vec-items (now (self .exit) .device)) (placesOf (now (self .exit))) (cursorOf (now (self .exit))) ⌝ }
+        ensures active { λ _. ⌜ now (self .exit) .active ≡ now (self .entry) .active ⌝ }
+    {
+        for i in 0..table.len() {
+            self.write_some(kept(clock, table[i]));
+        }
     }
 }
 
