@@ -13,3 +13,4 @@ pub mod Restores
 pub mod Memories
 pub mod Stores
 pub mod Copies
+pub mod Appendings

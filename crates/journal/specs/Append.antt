@@ -20,12 +20,17 @@ pub record Plan : Type 0 where
   pub base : ℕ
   pub copied : List Lease
 
--- behind the last record of its row; when that is full, the other row is begun with the leases kept, numbered above all that fits
+-- behind the last record of the row
+abbrev pub inRow : Cursor → Plan
+inRow c = record { side = c .side; place = c .count; first = c .first; base = c .base; copied = [] }
+
+-- into the other row, begun with the leases kept and numbered above all that fits
+abbrev pub inOther : (addresses now : ℕ) → Cursor → Table → Plan
+inOther n now c u = record { side = other (c .side); place = 0; first = suc (c .highest); base = length (keeping now u n); copied = keeping now u n }
+
+-- when the row is full, the other is begun
 abbrev pub plan : (R addresses now : ℕ) → Cursor → Table → Plan
-plan R n now c u =
-    cond (ltb (c .count) R)
-    (record { side = c .side; place = c .count; first = c .first; base = c .base; copied = [] })
-    (record { side = other (c .side); place = 0; first = suc (c .highest); base = length (keeping now u n); copied = keeping now u n })
+plan R n now c u = cond (ltb (c .count) R) (inRow c) (inOther n now c u)
 
 -- the last sequence number that an append takes
 abbrev pub last : Plan → ℕ

@@ -1,5 +1,5 @@
 ghost use mathlib.Core.Path.{_≡_};
-ghost use mathlib.Core.Bool.{cond};
+ghost use mathlib.Core.Bool.{cond, true};
 ghost use mathlib.Core.List.{[], _∷_};
 ghost use Prim.Native.Nat.{ℕ, suc, _+_, _*_, _^_, _<_, _≤_, max};
 ghost use lib.ListN.{length, getD, set};
@@ -14,16 +14,20 @@ ghost use Rattle.journal.specs.contracts.journal.Journal.{the-row};
 ghost use Rattle.journal.specs.declared.state.Found.the-variants.{Table};
 ghost use Rattle.journal.specs.Bytes.{encoded};
 ghost use Rattle.journal.specs.Image.{index, tableIn, unread};
-ghost use Rattle.journal.specs.Memory.{Copied, cursorOf, nextRecord, placesOf, putWith, storedWith, went, wentWith};
-ghost use Rattle.journal.specs.Append.{put};
+ghost use Rattle.journal.specs.Memory.{Appended, Copied, cursorOf, nextRecord, placesOf, putWith, storedWith, went, wentWith};
+ghost use Rattle.journal.specs.Append.{exhausted, inOther, inRow, put};
 ghost use Rattle.journal.specs.Device.{other as across};
 ghost use Rattle.journal.specs.Place.{Holds};
 ghost use Rattle.journal.specs.Table.{keeping, keptOf};
+ghost use Rattle.lease.specs.declared.fault.Fault.the-variants.{CountExhausted};
 ghost use Rattle.std.specs.Options.{isSome};
+ghost use Rattle.std.specs.Results.{Cases};
 use crate::journal::Journal;
 use crate::record::Record;
 use crate::state::Found;
 use crate::state::RowState;
+use crate::state::Written;
+use lease::Fault;
 use lease::Lease;
 
 impl Journal {
@@ -110,6 +114,46 @@ impl Journal {
     }
 }
 
+impl Journal {
+    fn append_in_row(&mut self, lease: Lease) -> Result<Written, Fault>
+        requires { ⌜ cursorOf (now self) .count < 4096 ⌝ }
+        ensures { λ r. ⌜ Cases r (λ w. Appended (now (self .entry)) (now (self .exit)) (inRow (cursorOf (now (self .entry)))) lease w) (λ f. (f ≡ CountExhausted) × (exhausted (inRow (cursorOf (now (self .entry)))) ≡ true) × (now (self .exit) ≡ now (self .entry))) ⌝ }
+    {
+        let a = self.active;
+        let row = self.rows[a];
+        if row.first >= (1 << 63) - row.count as u64 {
+            return Err(Fault::CountExhausted);
+        }
+        self.write(lease);
+        Ok(Written {
+            first: a * 4096 + row.count,
+            count: 1,
+        })
+    }
+
+    fn append_in_other(
+        &mut self,
+        clock: u64,
+        table: &[Option<Lease>],
+        lease: Lease,
+    ) -> Result<Written, Fault>
+        requires { ⌜ length (now table) < 4096 ⌝ }
+        ensures { λ r. ⌜ Cases r (λ w. Appended (now (self .entry)) (now (self .exit)) (inOther (length (now (table .entry))) clock (cursorOf (now (self .entry))) (tableIn (now (table .entry)))) lease w) (λ f. (f ≡ CountExhausted) × (exhausted (inOther (length (now (table .entry))) clock (cursorOf (now (self .entry))) (tableIn (now (table .entry)))) ≡ true) × (now (self .exit) ≡ now (self .entry))) ⌝ }
+    {
+        let kept = count_kept(clock, table);
+        if self.highest >= (1 << 63) - 1 - kept as u64 {
+            return Err(Fault::CountExhausted);
+        }
+        self.turn(kept as u16);
+        self.copy(clock, table);
+        self.write(lease);
+        Ok(Written {
+            first: self.active * 4096,
+            count: kept + 1,
+        })
+    }
+}
+
 fn kept(clock: u64, entry: Option<Lease>) -> Option<Lease>
     ensures { λ r. ⌜ r ≡ keptOf clock entry ⌝ }
 {
@@ -124,7 +168,8 @@ fn kept(clock: u64, entry: Option<Lease>) -> Option<Lease>
 
 // How many leases of a table are kept.
 fn count_kept(clock: u64, table: &[Option<Lease>]) -> usize
-    ensures { λ r. ⌜ r ≡ length (keeping clock (tableIn (now (table .entry))) (length (now (table .entry)))) ⌝ }
+    ensures value { λ r. ⌜ r ≡ length (keeping clock (tableIn (now (table .entry))) (length (now (table .entry)))) ⌝ }
+    ensures bound { λ r. ⌜ r ≤ length (now (table .entry)) ⌝ }
 {
     let mut n = 0;
     for i in 0..table.len() {

@@ -1,0 +1,71 @@
+-- What an append left, from what its steps left.
+use mathlib.Core.Path.{_≡_, refl, sym, ap, ap₂, subst, _∙_}
+use mathlib.Core.Bool.{false}
+use mathlib.Core.List.{List, [], _∷_, _++_}
+use Prim.Native.Nat.{ℕ, zero, suc, _+_, _^_, _<_, _≤_, max}
+use native.Mathlib.Omega.{arith}
+use lib.ListN.{length, set, length-append}
+use Rattle.std.proofs.shelf.Tests.{lt-leb}
+use Rattle.std.specs.Of.Vec.{vec-items}
+use Rattle.lease.specs.declared.lease.Lease.{Lease}
+use Rattle.journal.specs.declared.journal.Journal.{Journal}
+use Rattle.journal.specs.declared.state.Found.{Found}
+use Rattle.journal.specs.declared.state.Found.the-variants as found
+use Rattle.journal.specs.declared.state.Written.{Written}
+use Rattle.journal.specs.Place.{Holds}
+use Rattle.journal.specs.Bytes.{encoded}
+use Rattle.journal.specs.Table.{Table, keeping}
+use Rattle.journal.specs.Device.{Side, other, Device, Choice, Cursor}
+use Rattle.journal.specs.Append.{Plan, inRow, inOther, Write, numbered, writes, after, put, perform}
+use Rattle.journal.specs.Image.{index, stored, choiceFrom, deviceOf}
+use Rattle.journal.specs.Memory.{cursorOf, choiceOf, placesOf, nextRecord, went, copiedTo, Copied, Appended}
+use Rattle.journal.proofs.Progress.{length-numbered}
+
+-- a written journal has its table in the active row
+table-in : (j : Journal) (s : Side) → j .found ≡ found.Table → cursorOf j .side ≡ s → choiceOf j ≡ Choice.Found s
+table-in j s f e = ap (λ (g : Found). choiceFrom g (j .active)) f ∙ ap Choice.Found e
+
+module _ (before end : Journal) (x : Lease) (w : Written) where
+  abbrev c : Cursor
+  c = cursorOf before
+
+  pub row-appended : vec-items (end .device) ≡ set (vec-items (before .device)) (index (c .side) (c .count)) (encoded (nextRecord c x)) →
+      placesOf end ≡ put (c .side) (c .count) (Holds (nextRecord c x)) (placesOf before) → cursorOf end ≡ went c → end .found ≡ found.Table →
+      w .first ≡ index (c .side) (c .count) → w .count ≡ 1 → c .first + c .count < 2 ^ 63 → Appended before end (inRow c) x w
+  unfolding numbered stored perform
+  row-appended b d e f p n l =
+      let z : c .count ≡ c .count + 0 = omega arith in
+      record {
+        bytes = b;
+        device = d;
+        cursor = e ∙ ap (λ (k : ℕ). record { side = c .side; first = c .first; count = suc k; base = c .base; highest = max (c .highest) (c .first + k) }) z;
+        choice = table-in end (c .side) f (ap (λ (v : Cursor). v .side) e);
+        first = p;
+        count = n;
+        early = lt-leb (2 ^ 63) (c .first + (c .count + 0)) (omega arith);
+      }
+
+  module _ (n now : ℕ) (u : Table) (turned : Journal) where
+    abbrev begun : Cursor
+    begun = record { side = other (c .side); first = suc (c .highest); count = 0; base = length (keeping now u n); highest = c .highest }
+
+    pub other-appended : vec-items (turned .device) ≡ vec-items (before .device) → cursorOf turned ≡ begun →
+        Copied (cursorOf turned) (vec-items (turned .device)) (placesOf turned) (keeping now u n ++ (x ∷ [])) (vec-items (end .device)) (placesOf end) (cursorOf end) → end .found ≡ found.Table →
+        w .first ≡ index (other (c .side)) 0 → w .count ≡ length (keeping now u n) + 1 → suc (c .highest) + length (keeping now u n) < 2 ^ 63 → Appended before end (inOther n now c u) x w
+    other-appended b t y f p m l =
+        let k : length (keeping now u n ++ (x ∷ [])) ≡ length (keeping now u n) + 1 = length-append (keeping now u n) (x ∷ []) in
+        let z : Copied begun (vec-items (before .device)) (placesOf before) (keeping now u n ++ (x ∷ [])) (vec-items (end .device)) (placesOf end) (cursorOf end) =
+        subst (λ (bs : List (List ℕ)). Copied begun bs (deviceOf bs) (keeping now u n ++ (x ∷ [])) (vec-items (end .device)) (placesOf end) (cursorOf end)) b
+        (subst (λ (v : Cursor). Copied v (vec-items (turned .device)) (placesOf turned) (keeping now u n ++ (x ∷ [])) (vec-items (end .device)) (placesOf end) (cursorOf end)) t y) in
+        let q : suc (c .highest) ≡ suc (c .highest) + 0 = omega arith in
+        record {
+          bytes = z .bytes ∙ ap (λ (i : ℕ). stored (numbered (other (c .side)) 0 i (length (keeping now u n)) (keeping now u n ++ (x ∷ []))) (vec-items (before .device))) q;
+          device = z .device ∙ ap (λ (i : ℕ). perform (numbered (other (c .side)) 0 i (length (keeping now u n)) (keeping now u n ++ (x ∷ []))) (placesOf before)) q;
+          cursor = z .cursor
+              ∙ ap₂ (λ (i h : ℕ). record { side = other (c .side); first = suc (c .highest); count = i; base = length (keeping now u n); highest = h })
+              {x = length (keeping now u n ++ (x ∷ []))} {y = suc (0 + length (keeping now u n))} {u = c .highest + length (keeping now u n ++ (x ∷ []))} {v = max (c .highest) (suc (c .highest) + (0 + length (keeping now u n)))} (omega arith) (omega arith);
+          choice = table-in end (other (c .side)) f (ap (λ (v : Cursor). v .side) (z .cursor));
+          first = p;
+          count = m ∙ sym (length-numbered (other (c .side)) 0 (suc (c .highest) + 0) (length (keeping now u n)) (keeping now u n ++ (x ∷ [])) ∙ k);
+          early = lt-leb (2 ^ 63) (suc (c .highest) + (0 + length (keeping now u n))) (omega arith);
+        }
