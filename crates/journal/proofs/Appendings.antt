@@ -1,12 +1,19 @@
 -- What an append left, from what its steps left.
 use mathlib.Core.Path.{_≡_, refl, sym, ap, ap₂, subst, _∙_}
-use mathlib.Core.Bool.{false}
+use mathlib.Core.Bool.{true, false}
 use mathlib.Core.List.{List, [], _∷_, _++_}
 use Prim.Native.Nat.{ℕ, zero, suc, _+_, _^_, _<_, _≤_, max}
 use native.Mathlib.Omega.{arith}
 use lib.ListN.{length, set, length-append}
 use Rattle.std.proofs.shelf.Tests.{lt-leb}
 use Rattle.std.specs.Of.Vec.{vec-items}
+use Rattle.std.specs.Results.{Cases}
+use Rattle.std.specs.Vec.{made}
+use Rattle.std.specs.declared.option.Option.{Option}
+use Rattle.std.specs.declared.result.Result.{Result}
+use Rattle.std.specs.declared.result.Result.the-variants.{Ok, Err}
+use Rattle.lease.specs.declared.fault.Fault.{Fault}
+use Rattle.lease.specs.declared.fault.Fault.the-variants.{BadSettings, CountExhausted}
 use Rattle.lease.specs.declared.lease.Lease.{Lease}
 use Rattle.journal.specs.declared.journal.Journal.{Journal}
 use Rattle.journal.specs.declared.state.Found.{Found}
@@ -14,11 +21,14 @@ use Rattle.journal.specs.declared.state.Found.the-variants as found
 use Rattle.journal.specs.declared.state.Written.{Written}
 use Rattle.journal.specs.Place.{Holds}
 use Rattle.journal.specs.Bytes.{encoded}
-use Rattle.journal.specs.Table.{Table, keeping}
-use Rattle.journal.specs.Device.{Side, other, Device, Choice, Cursor}
-use Rattle.journal.specs.Append.{Plan, inRow, inOther, Write, numbered, writes, after, put, perform}
-use Rattle.journal.specs.Image.{index, stored, choiceFrom, deviceOf}
-use Rattle.journal.specs.Memory.{cursorOf, choiceOf, placesOf, nextRecord, went, copiedTo, Copied, Appended}
+use Rattle.journal.specs.Table.{Table, keeping, set as set-in}
+use Rattle.journal.specs.Device.{Side, other, Device, Choice, chosen, isFound, Cursor}
+use Rattle.journal.specs.Append.{Plan, inRow, inOther, exhausted, Write, numbered, writes, after, put, perform}
+use Rattle.journal.specs.Image.{index, stored, choiceFrom, deviceOf, tableIn}
+use Rattle.journal.specs.Memory.{cursorOf, choiceOf, placesOf, nextRecord, went, copiedTo, Copied, Appended, AppendRefused}
+use Rattle.journal.specs.Laws.{Ready}
+use Rattle.journal.specs.Promise.{planned, Stands, Outlives}
+use Rattle.journal.proofs.Appends.{append-stands, append-survives}
 use Rattle.journal.proofs.Progress.{length-numbered}
 
 -- a written journal has its table in the active row
@@ -69,3 +79,34 @@ module _ (before end : Journal) (x : Lease) (w : Written) where
           count = m ∙ sym (length-numbered (other (c .side)) 0 (suc (c .highest) + 0) (length (keeping now u n)) (keeping now u n ++ (x ∷ [])) ∙ k);
           early = lt-leb (2 ^ 63) (suc (c .highest) + (0 + length (keeping now u n))) (omega arith);
         }
+
+-- the laws, of the journal's own device
+outlived : (clock : ℕ) (xs : List (Option Lease)) (before : Journal) (x : Lease) → Outlives clock xs before x
+outlived clock xs before x then i k room on r = append-survives 4096 (length xs) clock then (placesOf before) (cursorOf before) (tableIn xs) x i k room on r
+
+stood : (clock : ℕ) (xs : List (Option Lease)) (before end : Journal) (x : Lease) (w : Written) → length xs < 4096 → Appended before end (planned before clock xs) x w → Stands clock xs before end x
+stood clock xs before end x w room a then on r =
+    subst (λ (d : Device). Ready 4096 (length xs) then d (cursorOf end) (set-in x (tableIn xs)) × (isFound (chosen 4096 d) ≡ true)) (sym (a .device))
+    (subst (λ (v : Cursor). Ready 4096 (length xs) then (perform (writes (planned before clock xs) x) (placesOf before)) v (set-in x (tableIn xs)) × (isFound (chosen 4096 (perform (writes (planned before clock xs) x) (placesOf before))) ≡ true)) (sym (a .cursor))
+    (append-stands 4096 (length xs) clock then (placesOf before) (cursorOf before) (tableIn xs) x room on r))
+
+-- the answer of either way, as the plan has it
+pub record Answered (clock : ℕ) (xs : List (Option Lease)) (before end : Journal) (x : Lease) (r : Result Written Fault) : Type 0 where
+  pub value : Cases r (λ w. Appended before end (planned before clock xs) x w) (λ f. AppendRefused f (length xs) (planned before clock xs) × (end ≡ before))
+  pub stands : made r (λ _. Stands clock xs before end x)
+  pub outlives : Outlives clock xs before x
+
+pub answered : (clock : ℕ) (xs : List (Option Lease)) (before end : Journal) (x : Lease) (r : Result Written Fault) (p : Plan) → length xs < 4096 → planned before clock xs ≡ p →
+    Cases r (λ w. Appended before end p x w) (λ f. (f ≡ CountExhausted) × (exhausted p ≡ true) × (end ≡ before)) → Answered clock xs before end x r
+answered clock xs before end x (Ok w) p room e h =
+    let a : Appended before end (planned before clock xs) x w = subst (λ (q : Plan). Appended before end q x w) (sym e) h in
+    record { value = a; stands = stood clock xs before end x w room a; outlives = outlived clock xs before x }
+answered clock xs before end x (Err f) p room e h =
+    record {
+      value = (subst (λ (g : Fault). AppendRefused g (length xs) (planned before clock xs)) (sym (h .0)) (room, ap exhausted e ∙ h .1), h .2);
+      stands = tt;
+      outlives = outlived clock xs before x;
+    }
+
+pub too-many : (clock : ℕ) (xs : List (Option Lease)) (before : Journal) (x : Lease) → 4096 ≤ length xs → Answered clock xs before before x (Err BadSettings)
+too-many clock xs before x l = record { value = (l, refl); stands = tt; outlives = outlived clock xs before x }

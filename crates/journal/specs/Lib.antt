@@ -9,4 +9,5 @@ pub mod Memory
 pub mod Crash
 pub mod Run
 pub mod Laws
+pub mod Promise
 pub mod Witness

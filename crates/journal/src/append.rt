@@ -14,14 +14,16 @@ ghost use Rattle.journal.specs.contracts.journal.Journal.{the-row};
 ghost use Rattle.journal.specs.declared.state.Found.the-variants.{Table};
 ghost use Rattle.journal.specs.Bytes.{encoded};
 ghost use Rattle.journal.specs.Image.{index, tableIn, unread};
-ghost use Rattle.journal.specs.Memory.{Appended, Copied, cursorOf, nextRecord, placesOf, putWith, storedWith, went, wentWith};
+ghost use Rattle.journal.specs.Memory.{AppendRefused, Appended, Copied, cursorOf, nextRecord, placesOf, putWith, storedWith, went, wentWith};
 ghost use Rattle.journal.specs.Append.{exhausted, inOther, inRow, put};
 ghost use Rattle.journal.specs.Device.{other as across};
 ghost use Rattle.journal.specs.Place.{Holds};
 ghost use Rattle.journal.specs.Table.{keeping, keptOf};
 ghost use Rattle.lease.specs.declared.fault.Fault.the-variants.{CountExhausted};
 ghost use Rattle.std.specs.Options.{isSome};
+ghost use Rattle.journal.specs.Promise.{Outlives, Stands, planned};
 ghost use Rattle.std.specs.Results.{Cases};
+ghost use Rattle.std.specs.Vec.{made};
 use crate::journal::Journal;
 use crate::record::Record;
 use crate::state::Found;
@@ -151,6 +153,28 @@ impl Journal {
             first: self.active * 4096,
             count: kept + 1,
         })
+    }
+}
+
+impl Journal {
+    // Writes a lease, and before it the leases that are kept where a row is begun. Once the places written are durable, each before the next, the lease may be answered.
+    pub fn append(
+        &mut self,
+        clock: u64,
+        table: &[Option<Lease>],
+        lease: Lease,
+    ) -> Result<Written, Fault>
+        ensures value { λ r. ⌜ Cases r (λ w. Appended (now (self .entry)) (now (self .exit)) (planned (now (self .entry)) clock (now (table .entry))) lease w) (λ f. AppendRefused f (length (now (table .entry))) (planned (now (self .entry)) clock (now (table .entry))) × (now (self .exit) ≡ now (self .entry))) ⌝ }
+        ensures stands { λ r. ⌜ made r (λ _. Stands clock (now (table .entry)) (now (self .entry)) (now (self .exit)) lease) ⌝ }
+        ensures outlives { λ _. ⌜ Outlives clock (now (table .entry)) (now (self .entry)) lease ⌝ }
+    {
+        if table.len() >= 4096 {
+            return Err(Fault::BadSettings);
+        }
+        if self.rows[self.active].count < 4096 {
+            return self.append_in_row(lease);
+        }
+        self.append_in_other(clock, table, lease)
     }
 }
 
