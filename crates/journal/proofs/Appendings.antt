@@ -7,9 +7,11 @@ use native.Mathlib.Omega.{arith}
 use lib.ListN.{length, set, length-append}
 use Rattle.std.proofs.shelf.Tests.{lt-leb}
 use Rattle.std.specs.Of.Vec.{vec-items}
+use Rattle.std.specs.shelf.Lists.{All}
 use Rattle.std.specs.Results.{Cases}
 use Rattle.std.specs.Vec.{made}
 use Rattle.std.specs.declared.option.Option.{Option}
+use Rattle.std.specs.declared.option.Option.the-variants.{Some}
 use Rattle.std.specs.declared.result.Result.{Result}
 use Rattle.std.specs.declared.result.Result.the-variants.{Ok, Err}
 use Rattle.lease.specs.declared.fault.Fault.{Fault}
@@ -20,14 +22,16 @@ use Rattle.journal.specs.declared.state.Found.{Found}
 use Rattle.journal.specs.declared.state.Found.the-variants as found
 use Rattle.journal.specs.declared.state.Written.{Written}
 use Rattle.journal.specs.Place.{Holds}
-use Rattle.journal.specs.Bytes.{encoded}
+use Rattle.journal.specs.Bytes.{encoded, decoded}
 use Rattle.journal.specs.Table.{Table, keeping, set as set-in}
 use Rattle.journal.specs.Device.{Side, other, Device, Choice, chosen, isFound, Cursor}
 use Rattle.journal.specs.Append.{Plan, inRow, inOther, exhausted, Write, numbered, writes, after, put, perform}
 use Rattle.journal.specs.Image.{index, stored, choiceFrom, deviceOf, tableIn}
-use Rattle.journal.specs.Memory.{cursorOf, choiceOf, placesOf, nextRecord, went, copiedTo, Copied, Appended, AppendRefused}
+use Rattle.journal.specs.Memory.{cursorOf, choiceOf, placesOf, nextRecord, went, copiedTo, Legible, Copied, Appended, AppendRefused}
 use Rattle.journal.specs.Laws.{Ready}
 use Rattle.journal.specs.Promise.{planned, Stands, Outlives}
+use Rattle.journal.specs.Durable.{CutFile}
+use Rattle.journal.proofs.Durables.{cut-file}
 use Rattle.journal.proofs.Appends.{append-stands, append-survives}
 use Rattle.journal.proofs.Progress.{length-numbered}
 
@@ -40,10 +44,10 @@ module _ (before end : Journal) (x : Lease) (w : Written) where
   c = cursorOf before
 
   pub row-appended : vec-items (end .device) ≡ set (vec-items (before .device)) (index (c .side) (c .count)) (encoded (nextRecord c x)) →
-      placesOf end ≡ put (c .side) (c .count) (Holds (nextRecord c x)) (placesOf before) → cursorOf end ≡ went c → end .found ≡ found.Table →
-      w .first ≡ index (c .side) (c .count) → w .count ≡ 1 → c .first + c .count < 2 ^ 63 → Appended before end (inRow c) x w
+      placesOf end ≡ put (c .side) (c .count) (Holds (nextRecord c x)) (placesOf before) → decoded (encoded (nextRecord c x)) ≡ Some (nextRecord c x) → cursorOf end ≡ went c → end .found ≡ found.Table →
+      w .first ≡ index (c .side) (c .count) → w .count ≡ 1 → c .first + c .count < 2 ^ 63 → c .count < 4096 → Appended before end (inRow c) x w
   unfolding numbered stored perform
-  row-appended b d e f p n l =
+  row-appended b d g e f p n l m =
       let z : c .count ≡ c .count + 0 = omega arith in
       record {
         bytes = b;
@@ -53,6 +57,8 @@ module _ (before end : Journal) (x : Lease) (w : Written) where
         first = p;
         count = n;
         early = lt-leb (2 ^ 63) (c .first + (c .count + 0)) (omega arith);
+        legible = (g, tt);
+        inside = omega arith;
       }
 
   module _ (n now : ℕ) (u : Table) (turned : Journal) where
@@ -61,8 +67,8 @@ module _ (before end : Journal) (x : Lease) (w : Written) where
 
     pub other-appended : vec-items (turned .device) ≡ vec-items (before .device) → cursorOf turned ≡ begun →
         Copied (cursorOf turned) (vec-items (turned .device)) (placesOf turned) (keeping now u n ++ (x ∷ [])) (vec-items (end .device)) (placesOf end) (cursorOf end) → end .found ≡ found.Table →
-        w .first ≡ index (other (c .side)) 0 → w .count ≡ length (keeping now u n) + 1 → suc (c .highest) + length (keeping now u n) < 2 ^ 63 → Appended before end (inOther n now c u) x w
-    other-appended b t y f p m l =
+        w .first ≡ index (other (c .side)) 0 → w .count ≡ length (keeping now u n) + 1 → suc (c .highest) + length (keeping now u n) < 2 ^ 63 → length (keeping now u n) < 4096 → Appended before end (inOther n now c u) x w
+    other-appended b t y f p m l o =
         let k : length (keeping now u n ++ (x ∷ [])) ≡ length (keeping now u n) + 1 = length-append (keeping now u n) (x ∷ []) in
         let z : Copied begun (vec-items (before .device)) (placesOf before) (keeping now u n ++ (x ∷ [])) (vec-items (end .device)) (placesOf end) (cursorOf end) =
         subst (λ (bs : List (List ℕ)). Copied begun bs (deviceOf bs) (keeping now u n ++ (x ∷ [])) (vec-items (end .device)) (placesOf end) (cursorOf end)) b
@@ -78,6 +84,8 @@ module _ (before end : Journal) (x : Lease) (w : Written) where
           first = p;
           count = m ∙ sym (length-numbered (other (c .side)) 0 (suc (c .highest) + 0) (length (keeping now u n)) (keeping now u n ++ (x ∷ [])) ∙ k);
           early = lt-leb (2 ^ 63) (suc (c .highest) + (0 + length (keeping now u n))) (omega arith);
+          legible = subst (λ (i : ℕ). All Legible (numbered (other (c .side)) 0 i (length (keeping now u n)) (keeping now u n ++ (x ∷ [])))) q (z .legible);
+          inside = omega arith;
         }
 
 -- the laws, of the journal's own device
@@ -95,18 +103,20 @@ pub record Answered (clock : ℕ) (xs : List (Option Lease)) (before end : Journ
   pub value : Cases r (λ w. Appended before end (planned before clock xs) x w) (λ f. AppendRefused f (length xs) (planned before clock xs) × (end ≡ before))
   pub stands : made r (λ _. Stands clock xs before end x)
   pub outlives : Outlives clock xs before x
+  pub file : made r (λ w. CutFile before end (planned before clock xs) x w)
 
 pub answered : (clock : ℕ) (xs : List (Option Lease)) (before end : Journal) (x : Lease) (r : Result Written Fault) (p : Plan) → length xs < 4096 → planned before clock xs ≡ p →
     Cases r (λ w. Appended before end p x w) (λ f. (f ≡ CountExhausted) × (exhausted p ≡ true) × (end ≡ before)) → Answered clock xs before end x r
 answered clock xs before end x (Ok w) p room e h =
     let a : Appended before end (planned before clock xs) x w = subst (λ (q : Plan). Appended before end q x w) (sym e) h in
-    record { value = a; stands = stood clock xs before end x w room a; outlives = outlived clock xs before x }
+    record { value = a; stands = stood clock xs before end x w room a; outlives = outlived clock xs before x; file = cut-file before end (planned before clock xs) x w a }
 answered clock xs before end x (Err f) p room e h =
     record {
       value = (subst (λ (g : Fault). AppendRefused g (length xs) (planned before clock xs)) (sym (h .0)) (room, ap exhausted e ∙ h .1), h .2);
       stands = tt;
       outlives = outlived clock xs before x;
+      file = tt;
     }
 
 pub too-many : (clock : ℕ) (xs : List (Option Lease)) (before : Journal) (x : Lease) → 4096 ≤ length xs → Answered clock xs before before x (Err BadSettings)
-too-many clock xs before x l = record { value = (l, refl); stands = tt; outlives = outlived clock xs before x }
+too-many clock xs before x l = record { value = (l, refl); stands = tt; outlives = outlived clock xs before x; file = tt }

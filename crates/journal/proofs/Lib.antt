@@ -14,3 +14,4 @@ pub mod Memories
 pub mod Stores
 pub mod Copies
 pub mod Appendings
+pub mod Durables

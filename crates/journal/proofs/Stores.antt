@@ -38,7 +38,7 @@ hit bs i i′ j k b p same l m there back =
       | inr e ↦ cond-false _ _ _ (ne-eqb j k e) ∙ miss bs i i′ j b (λ q z. e (back z))
     ]
 
-set-place : (bs : List (List ℕ)) (s : Side) (k : ℕ) (b : List ℕ) (p : Place) → placeOf b ≡ p → length bs ≡ 8192 → k < 4096 → deviceOf (set bs (index s k) b) ≡ put s k p (deviceOf bs)
+pub set-place : (bs : List (List ℕ)) (s : Side) (k : ℕ) (b : List ℕ) (p : Place) → placeOf b ≡ p → length bs ≡ 8192 → k < 4096 → deviceOf (set bs (index s k) b) ≡ put s k p (deviceOf bs)
 set-place bs Row0 k b p e l m =
     sym (fun-ext (elim [
       | Row0 ↦ fun-ext (λ j. hit bs k j j k b p e (omega arith) m (λ z. z) (λ z. z))
@@ -55,7 +55,7 @@ pub device-set : (bs : List (List ℕ)) (s : Side) (k : ℕ) (b : List ℕ) (r :
 device-set bs s k b r e l m = set-place bs s k b (Holds r) (ap (λ (o : Option Record). placeFrom o (zeros b)) e) l m
 
 -- one write more at the end
-abbrev nth : Side → (place sequence base : ℕ) → Lease → Write
+abbrev pub nth : Side → (place sequence base : ℕ) → Lease → Write
 nth s k q b x = record { side = s; place = k; what = record { sequence = q; base = b; lease = x } }
 
 pub numbered-push : (s : Side) (k q b : ℕ) (xs : List Lease) (x : Lease) → numbered s k q b (xs ++ (x ∷ [])) ≡ numbered s k q b xs ++ (nth s (k + length xs) (q + length xs) b x ∷ [])

@@ -10,4 +10,5 @@ pub mod Crash
 pub mod Run
 pub mod Laws
 pub mod Promise
+pub mod Durable
 pub mod Witness

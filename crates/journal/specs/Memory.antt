@@ -8,12 +8,13 @@ use Rattle.journal.specs.declared.journal.Journal.{Journal}
 use Rattle.journal.specs.declared.record.Record.{Record}
 use mathlib.Core.Bool.{true, false}
 use lib.ListN.{length, set}
+use Rattle.std.specs.shelf.Lists.{All}
 use Rattle.std.specs.Of.Vec.{vec-items}
 use Rattle.std.specs.declared.option.Option.{Option}
 use Rattle.std.specs.declared.option.Option.the-variants.{Some, None}
 use Rattle.journal.specs.Place.{Holds}
-use Rattle.journal.specs.Bytes.{encoded}
-use Rattle.journal.specs.Append.{put, perform, numbered, Plan, exhausted, writes, after as behind}
+use Rattle.journal.specs.Bytes.{encoded, decoded}
+use Rattle.journal.specs.Append.{put, perform, Write, numbered, Plan, exhausted, writes, after as behind}
 use Rattle.journal.specs.declared.state.Written.{Written}
 use Rattle.lease.specs.declared.fault.Fault.{Fault}
 use Rattle.lease.specs.declared.fault.Fault.the-variants.{Malformed, BadAddress, OtherClient, NotWaiting, TooLate, NoneFree, BadSettings, TableLost, CountExhausted}
@@ -49,15 +50,24 @@ abbrev pub putWith : Option Lease → Cursor → Device → Device
 putWith None c d = d
 putWith (Some x) c d = put (c .side) (c .count) (Holds (nextRecord c x)) d
 
+abbrev pub LegibleWith : Option Lease → Cursor → Type 0
+LegibleWith None c = Unit {0}
+LegibleWith (Some x) c = decoded (encoded (nextRecord c x)) ≡ Some (nextRecord c x)
+
 -- a cursor behind `n` records of a row that was begun, numbered from one above the highest on
 abbrev pub copiedTo : Cursor → ℕ → Cursor
 copiedTo c n = record { side = c .side; first = c .first; count = n; base = c .base; highest = c .highest + n }
+
+-- a write that can be read back
+abbrev pub Legible : Write → Type 0
+Legible w = decoded (encoded (w .what)) ≡ Some (w .what)
 
 -- the leases `xs` stand in the row that was begun at `c`: as bytes, as records, and for the cursor
 pub record Copied (c : Cursor) (bs₀ : List (List ℕ)) (d₀ : Device) (xs : List Lease) (bs : List (List ℕ)) (d : Device) (e : Cursor) : Type 0 where
   pub bytes : bs ≡ stored (numbered (c .side) 0 (c .first) (c .base) xs) bs₀
   pub device : d ≡ perform (numbered (c .side) 0 (c .first) (c .base) xs) d₀
   pub cursor : e ≡ copiedTo c (length xs)
+  pub legible : All Legible (numbered (c .side) 0 (c .first) (c .base) xs)
 
 -- what an append left, and which places it wrote: so many from the first on, in the order of the writes
 pub record Appended (before after : Journal) (p : Plan) (x : Lease) (w : Written) : Type 0 where
@@ -67,6 +77,8 @@ pub record Appended (before after : Journal) (p : Plan) (x : Lease) (w : Written
   pub choice : choiceOf after ≡ Found (p .side)
   pub first : w .first ≡ index (p .side) (p .place)
   pub count : w .count ≡ length (writes p x)
+  pub legible : All Legible (writes p x)
+  pub inside : p .place + length (p .copied) < 4096
   pub early : exhausted p ≡ false
 
 -- why an append is refused

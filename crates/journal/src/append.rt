@@ -12,15 +12,17 @@ ghost use Rattle.std.specs.Changed.{with-item};
 ghost use Rattle.std.specs.Of.Vec.{vec-items, vec-len};
 ghost use Rattle.journal.specs.contracts.journal.Journal.{the-row};
 ghost use Rattle.journal.specs.declared.state.Found.the-variants.{Table};
-ghost use Rattle.journal.specs.Bytes.{encoded};
+ghost use Rattle.journal.specs.Bytes.{decoded, encoded};
 ghost use Rattle.journal.specs.Image.{index, tableIn, unread};
-ghost use Rattle.journal.specs.Memory.{AppendRefused, Appended, Copied, cursorOf, nextRecord, placesOf, putWith, storedWith, went, wentWith};
+ghost use Rattle.journal.specs.Memory.{AppendRefused, Appended, Copied, LegibleWith, cursorOf, nextRecord, placesOf, putWith, storedWith, went, wentWith};
 ghost use Rattle.journal.specs.Append.{exhausted, inOther, inRow, put};
 ghost use Rattle.journal.specs.Device.{other as across};
 ghost use Rattle.journal.specs.Place.{Holds};
 ghost use Rattle.journal.specs.Table.{keeping, keptOf};
 ghost use Rattle.lease.specs.declared.fault.Fault.the-variants.{CountExhausted};
+ghost use Rattle.std.specs.declared.option.Option.the-variants.{Some};
 ghost use Rattle.std.specs.Options.{isSome};
+ghost use Rattle.journal.specs.Durable.{CutFile};
 ghost use Rattle.journal.specs.Promise.{Outlives, Stands, planned};
 ghost use Rattle.std.specs.Results.{Cases};
 ghost use Rattle.std.specs.Vec.{made};
@@ -49,6 +51,7 @@ impl Journal {
         requires early { ⌜ cursorOf (now self) .first + cursorOf (now self) .count < 2 ^ 63 ⌝ }
         ensures bytes { λ _. ⌜ vec-items (now (self .exit) .device) ≡ set (vec-items (now (self .entry) .device)) (index (cursorOf (now (self .entry)) .side) (cursorOf (now (self .entry)) .count)) (encoded (nextRecord (cursorOf (now (self .entry))) lease)) ⌝ }
         ensures device { λ _. ⌜ placesOf (now (self .exit)) ≡ put (cursorOf (now (self .entry)) .side) (cursorOf (now (self .entry)) .count) (Holds (nextRecord (cursorOf (now (self .entry))) lease)) (placesOf (now (self .entry))) ⌝ }
+        ensures legible { λ _. ⌜ decoded (encoded (nextRecord (cursorOf (now (self .entry))) lease)) ≡ Some (nextRecord (cursorOf (now (self .entry))) lease) ⌝ }
         ensures cursor { λ _. ⌜ cursorOf (now (self .exit)) ≡ went (cursorOf (now (self .entry))) ⌝ }
         ensures active { λ _. ⌜ now (self .exit) .active ≡ now (self .entry) .active ⌝ }
         ensures found { λ _. ⌜ now (self .exit) .found ≡ Table ⌝ }
@@ -75,6 +78,7 @@ impl Journal {
         requires early { ⌜ cursorOf (now self) .first + cursorOf (now self) .count < 2 ^ 63 ⌝ }
         ensures bytes { λ _. ⌜ vec-items (now (self .exit) .device) ≡ storedWith lease (cursorOf (now (self .entry))) (vec-items (now (self .entry) .device)) ⌝ }
         ensures device { λ _. ⌜ placesOf (now (self .exit)) ≡ putWith lease (cursorOf (now (self .entry))) (placesOf (now (self .entry))) ⌝ }
+        ensures legible { λ _. ⌜ LegibleWith lease (cursorOf (now (self .entry))) ⌝ }
         ensures cursor { λ _. ⌜ cursorOf (now (self .exit)) ≡ wentWith lease (cursorOf (now (self .entry))) ⌝ }
         ensures active { λ _. ⌜ now (self .exit) .active ≡ now (self .entry) .active ⌝ }
     {
@@ -166,6 +170,7 @@ impl Journal {
     ) -> Result<Written, Fault>
         ensures value { λ r. ⌜ Cases r (λ w. Appended (now (self .entry)) (now (self .exit)) (planned (now (self .entry)) clock (now (table .entry))) lease w) (λ f. AppendRefused f (length (now (table .entry))) (planned (now (self .entry)) clock (now (table .entry))) × (now (self .exit) ≡ now (self .entry))) ⌝ }
         ensures stands { λ r. ⌜ made r (λ _. Stands clock (now (table .entry)) (now (self .entry)) (now (self .exit)) lease) ⌝ }
+        ensures file { λ r. ⌜ made r (λ w. CutFile (now (self .entry)) (now (self .exit)) (planned (now (self .entry)) clock (now (table .entry))) lease w) ⌝ }
         ensures outlives { λ _. ⌜ Outlives clock (now (table .entry)) (now (self .entry)) lease ⌝ }
     {
         if table.len() >= 4096 {

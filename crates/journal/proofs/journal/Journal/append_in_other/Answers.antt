@@ -35,10 +35,11 @@ returns c =
     let above : cursorOf turned .first ≡ suc (cursorOf turned .highest) = ap (λ (v : Cursor). v .first) t ∙ sym (ap (λ (v : Cursor). suc (v .highest)) t) in
     let y : Copied (cursorOf turned) (vec-items (turned .device)) (placesOf turned) (ks ++ (c .args .lease ∷ [])) (vec-items (end .device)) (placesOf end) (cursorOf end) =
     one-copied (cursorOf turned) (vec-items (turned .device)) (placesOf turned) above ks (c .args .lease) (vec-items (copied .device)) (placesOf copied) (cursorOf copied) (vec-items (end .device)) (placesOf end) (cursorOf end)
-    (c .copy .ensures .copied) (c .write .ensures .bytes) (c .write .ensures .device) (c .write .ensures .cursor) in
+    (c .copy .ensures .copied) (c .write .ensures .legible) (c .write .ensures .bytes) (c .write .ensures .device) (c .write .ensures .cursor) in
     let side : cursorOf end .side ≡ other (cursorOf before .side) = ap (λ (v : Cursor). v .side) (y .cursor) ∙ ap (λ (v : Cursor). v .side) t in
     let start : end .active * 4096 ≡ end .active * 4096 + 0 = omega arith in
     other-appended before end (c .args .lease) _ (length (c .args .table .now)) (c .args .clock) (tableIn (c .args .table .now)) turned (c .turn .ensures .bytes) t y (c .write .ensures .found)
     (start ∙ index-at (end .active) 0 (end .one) ∙ ap (λ (s : Side). index s 0) side)
     (ap (λ (k : ℕ). k + 1) (c .count-kept-kept .ensures .value))
     (omega (arith, c .count-kept-kept .ensures .value, c .if-self-kept .left))
+    (omega (arith, c .count-kept-kept .ensures .value, c .count-kept-kept .ensures .bound, c .pre))

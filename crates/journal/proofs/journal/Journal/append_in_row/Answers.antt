@@ -8,5 +8,5 @@ use Rattle.journal.proofs.journal.Journal.append_in_row.Needs as need
 
 pub returns : need.returns
 returns c =
-    row-appended (c .args .self .now) (c .write .last .self) (c .args .lease) _ (c .write .ensures .bytes) (c .write .ensures .device) (c .write .ensures .cursor) (c .write .ensures .found)
-    (index-at (c .args .self .now .active) (getD (c .args .self .now .rows) (c .args .self .now .active) unread .count) (c .args .self .now .one)) refl (omega (arith, c .if-row .left))
+    row-appended (c .args .self .now) (c .write .last .self) (c .args .lease) _ (c .write .ensures .bytes) (c .write .ensures .device) (c .write .ensures .legible) (c .write .ensures .cursor) (c .write .ensures .found)
+    (index-at (c .args .self .now .active) (getD (c .args .self .now .rows) (c .args .self .now .active) unread .count) (c .args .self .now .one)) refl (omega (arith, c .if-row .left)) (c .pre)

@@ -36,6 +36,6 @@ pub loop-i-again : need.loop-i-again
 loop-i-again c = (
   more-copied (cursorOf (c .args .self .now)) (vec-items (c .args .self .now .device)) (placesOf (c .args .self .now)) (c .pre .above) (c .args .clock) (tableIn (c .args .table .now)) (c .loop-i .i) (c .kept .result)
       (vec-items (c .loop-i .self .device)) (placesOf (c .loop-i .self)) (cursorOf (c .loop-i .self)) (vec-items (c .write-some .last .self .device)) (placesOf (c .write-some .last .self)) (cursorOf (c .write-some .last .self))
-      (c .kept .ensures) (c .loop-i .inv .0) (c .write-some .ensures .bytes) (c .write-some .ensures .device) (c .write-some .ensures .cursor),
+      (c .kept .ensures) (c .loop-i .inv .0) (c .write-some .ensures .legible) (c .write-some .ensures .bytes) (c .write-some .ensures .device) (c .write-some .ensures .cursor),
   c .write-some .ensures .active ∙ c .loop-i .inv .1,
 )
