@@ -5,14 +5,14 @@ use mathlib.Core.Bool.{Bool, true, false, cond, _&&_}
 use Prim.Native.Nat.{ℕ, zero, suc, _+_, _-_, _<_, _≤_, max}
 use native.Mathlib.Omega.{arith}
 use lib.Dec.{leb, ltb}
-use Rattle.std.proofs.shelf.Tests.{cond-true, cond-false, both-ways, lt-ltb, le-ltb, cases-eq, cases-bool, and-parts}
-use Rattle.journal.specs.Place.{Place, height, baseOf}
+use Rattle.std.proofs.shelf.Tests.{cond-true, cond-false, both-ways, lt-ltb, le-ltb, cases-eq, cases-bool, and-parts, and-from, and-left, lt-leb}
+use Rattle.journal.specs.Place.{Place, Blank, Torn, Holds, height, baseOf}
 use Rattle.journal.specs.Table.{Table, empty}
-use Rattle.journal.specs.Row.{Row, first, reads, whole, tableOf, highest}
+use Rattle.journal.specs.Row.{Row, numbers, first, reads, whole, tableOf, highest, isBlank, blankRow}
 use Rattle.journal.specs.Device.{Side, Row0, Row1, other, Device, high, blank, newerOf, newer, Choice, New, Lost, Found, choose, chosen, isFound, Cursor, fresh, cursorAt, cursor, leasesAt, leases}
 use Rattle.journal.specs.Crash.{Damaged}
-use Rattle.journal.specs.Laws.{Begun, Settled}
-use Rattle.journal.proofs.Reading.{begun-first, begun-reads, begun-whole, begun-below}
+use Rattle.journal.specs.Laws.{ChoiceTells, Begun, Settled}
+use Rattle.journal.proofs.Reading.{reads-is, begun-first, begun-reads, begun-whole, begun-below}
 
 sides-differ : Row0 ≡ Row1 → ⊥
 sides-differ e = let z : _≡_ {A = ℕ} 0 1 = cc in omega arith
@@ -135,3 +135,68 @@ unbegun R row h b p =
       base = λ l. absurd (omega arith);
       positive = omega arith;
     }
+
+-- what the choice tells
+choose-none : (a b : Bool) (x y : Side) (c : Choice) → isFound (cond a (Found x) (cond b (Found y) c)) ≡ false → (a ≡ false) × (b ≡ false)
+choose-none true b x y c e = absurd (both-ways _ e refl)
+choose-none false true x y c e = absurd (both-ways _ e refl)
+choose-none false false x y c e = (refl, refl)
+
+both-sides : (P : Side → Type 0) (v : Side) → P v → P (other v) → (s : Side) → P s
+both-sides P Row0 p q Row0 = p
+both-sides P Row0 p q Row1 = q
+both-sides P Row1 p q Row0 = q
+both-sides P Row1 p q Row1 = p
+
+no-table : (R : ℕ) (d : Device) → isFound (chosen R d) ≡ false → Damaged R d
+no-table R d e =
+    let z : (whole R (d (newer R d)) ≡ false) × (whole R (d (other (newer R d))) ≡ false) = choose-none (whole R (d (newer R d))) (whole R (d (other (newer R d)))) (newer R d) (other (newer R d)) (cond (blank R d) New Lost) e in
+    both-sides (λ s. whole R (d s) ≡ false) (newer R d) (z .0) (z .1)
+
+blank-place : (p : Place) → isBlank p ≡ true → p ≡ Blank
+blank-place Blank e = refl
+blank-place Torn e = absurd (both-ways _ refl e)
+blank-place (Holds r) e = absurd (both-ways _ refl e)
+
+blank-each : (row : Row) (n : ℕ) → blankRow row n ≡ true → (k : ℕ) → k < n → row k ≡ Blank
+unfolding blankRow
+blank-each row zero e k l = absurd (omega arith)
+blank-each row (suc n) e k l =
+    let z : (blankRow row n ≡ true) × (isBlank (row n) ≡ true) = and-parts (blankRow row n) (isBlank (row n)) e in
+    elim (cases-eq k n) [
+      | inl q ↦ ap row q ∙ blank-place (row n) (z .1)
+      | inr q ↦ blank-each row n (z .0) k (omega arith)
+    ]
+
+blank-all : (row : Row) (n : ℕ) → ((k : ℕ) → k < n → row k ≡ Blank) → blankRow row n ≡ true
+unfolding blankRow
+blank-all row zero h = refl
+blank-all row (suc n) h = and-from (blankRow row n) (isBlank (row n)) (blank-all row n (λ k l. h k (omega arith))) (ap isBlank (h n (omega arith)))
+
+lost-new : Lost ≡ New → ⊥
+lost-new e = let z : _≡_ {A = ℕ} 0 1 = cc in omega arith
+
+only-blank : (b : Bool) → cond b New Lost ≡ New → b ≡ true
+only-blank true e = refl
+only-blank false e = absurd (lost-new e)
+
+pub choice-tells : ChoiceTells
+choice-tells R d =
+    record {
+      new = λ e. fresh-each e;
+      zeros = λ h.
+          tableless R d (λ s. blank-unread (d s) (h s)) (newer R d)
+          ∙ cond-true _ _ _ (and-from (blankRow (d Row0) R) (blankRow (d Row1) R) (blank-all (d Row0) R (h Row0)) (blank-all (d Row1) R (h Row1)));
+      none = no-table R d;
+    }
+  where
+    blank-unread : (row : Row) → ((k : ℕ) → k < R → row k ≡ Blank) → whole R row ≡ false
+    blank-unread row h =
+        let e : reads row R ≡ 0 = reads-is row R 0 (omega arith) (λ j q. absurd (omega arith)) (λ l. ap (numbers (first row + 0)) (h 0 l)) in
+        and-left _ _ (lt-leb 1 (reads row R) (omega arith))
+
+    fresh-each : chosen R d ≡ New → (s : Side) (k : ℕ) → k < R → d s k ≡ Blank
+    fresh-each e =
+        let w : Damaged R d = no-table R d (ap isFound e) in
+        let b : (blankRow (d Row0) R ≡ true) × (blankRow (d Row1) R ≡ true) = and-parts (blankRow (d Row0) R) (blankRow (d Row1) R) (only-blank (blank R d) (sym (tableless R d w (newer R d)) ∙ e)) in
+        both-sides (λ s. (k : ℕ) → k < R → d s k ≡ Blank) Row0 (blank-each (d Row0) R (b .0)) (blank-each (d Row1) R (b .1))

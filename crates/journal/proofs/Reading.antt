@@ -5,14 +5,14 @@ use mathlib.Core.Bool.{Bool, true, false, cond, _&&_}
 use Prim.Native.Nat.{ℕ, zero, suc, _+_, _<_, _≤_}
 use native.Mathlib.Omega.{arith}
 use lib.Dec.{eqb, leb}
-use Rattle.std.proofs.shelf.Tests.{cond-both, cond-true, cond-false, both-ways, eqb-true, eq-eqb, ne-eqb, le-leb, lt-leb, and-from, and-left, and-right, cases-eq, cases-lt}
+use Rattle.std.proofs.shelf.Tests.{cond-true, cond-false, both-ways, eqb-true, eq-eqb, ne-eqb, le-leb, lt-leb, and-parts, and-cases, and-from, and-left, and-right, cases-eq, cases-bool, cases-lt}
 use Rattle.std.specs.declared.option.Option.the-variants.{Some, None}
 use Rattle.journal.specs.declared.record.Record.{Record}
 use Rattle.journal.specs.Place.{Place, Blank, Torn, Holds, height, baseOf}
 use Rattle.journal.specs.Table.{Table, empty, set}
 use Rattle.journal.specs.Row.{Row, numbers, reads, first, whole, putIn, tableOf}
 use Rattle.journal.specs.Append.{at}
-use Rattle.journal.specs.Laws.{Begun}
+use Rattle.journal.specs.Laws.{Front, RowIsRead, Begun}
 
 pub at-same : (k : ℕ) (p : Place) (row : Row) → at k p row k ≡ p
 at-same k p row = cond-true _ _ _ (eq-eqb k k refl)
@@ -51,12 +51,40 @@ reads-is row (suc m) n l h p =
           | inr z ↦ and-left _ _ (ne-eqb (reads row m) m (omega arith))
         ]
 
-pub reads-le : (row : Row) (n : ℕ) → reads row n ≤ n
+pub row-is-read : RowIsRead
 unfolding reads
-reads-le row zero = omega arith
-reads-le row (suc n) =
-    let z : reads row n ≤ n = reads-le row n in
-    cond-both (eqb (reads row n) n && numbers (first row + n) (row n)) (suc n) (reads row n) (λ (k : ℕ). k ≤ suc n) (λ e. omega arith) (λ e. omega arith)
+row-is-read row zero = record { few = omega arith; each = λ k l. absurd (omega arith); stops = λ l. absurd (omega arith) }
+row-is-read row (suc R) = go (row-is-read row R) (cases-bool (eqb (reads row R) R && numbers (first row + R) (row R)))
+  where
+    go : Front row R (reads row R) → ((eqb (reads row R) R && numbers (first row + R) (row R)) ≡ true) ⊎ ((eqb (reads row R) R && numbers (first row + R) (row R)) ≡ false) →
+        Front row (suc R) (cond (eqb (reads row R) R && numbers (first row + R) (row R)) (suc R) (reads row R))
+    go f (inl b) =
+        let t : reads row R ≡ R = eqb-true (reads row R) R (and-parts (eqb (reads row R) R) (numbers (first row + R) (row R)) b .0) in
+        subst (Front row (suc R)) (sym (cond-true _ _ _ b))
+        (record {
+          few = omega arith;
+          each = λ k l. elim (cases-eq k R) [
+            | inl e ↦ subst (λ (i : ℕ). numbers (first row + i) (row i) ≡ true) (sym e) (and-parts (eqb (reads row R) R) (numbers (first row + R) (row R)) b .1)
+            | inr e ↦ f .each k (omega arith)
+          ];
+          stops = λ l. absurd (omega arith);
+        })
+    go f (inr b) =
+        subst (Front row (suc R)) (sym (cond-false _ _ _ b))
+        (record {
+          few = omega (arith, f .few);
+          each = f .each;
+          stops = λ l. elim (cases-eq (reads row R) R) [
+            | inl e ↦ elim (and-cases (eqb (reads row R) R) (numbers (first row + R) (row R)) b) [
+              | inl z ↦ absurd (both-ways (eqb (reads row R) R) z (eq-eqb (reads row R) R e))
+              | inr z ↦ subst (λ (i : ℕ). numbers (first row + i) (row i) ≡ false) (sym e) z
+            ]
+            | inr e ↦ f .stops (omega (arith, f .few))
+          ];
+        })
+
+pub reads-le : (row : Row) (n : ℕ) → reads row n ≤ n
+reads-le row n = row-is-read row n .few
 
 module _ (R : ℕ) (row : Row) (n f b : ℕ) (g : Begun R row n f b) where
   pub begun-first : 0 < n → first row ≡ f

@@ -13,14 +13,19 @@ use Rattle.lease.specs.declared.lease.Lease.{Lease}
 use Rattle.journal.specs.declared.record.Record.{Record}
 use Rattle.journal.specs.Place.{Place, Blank, Torn}
 use Rattle.journal.specs.Bytes.{placeFrom, placeOf}
-use Rattle.journal.specs.Table.{Table}
+use Rattle.journal.specs.Table.{Table, keptOf}
 use Rattle.journal.specs.Row.{Row, reads, putIn, tableOf}
 use Rattle.journal.specs.declared.state.RowState.{RowState}
 use Rattle.journal.specs.declared.state.Found.{Found}
 use Rattle.journal.specs.declared.state.Found.the-variants as found
-use Rattle.journal.specs.Device.{Device, Choice, Cursor, cursorAt, leasesAt, leases}
+use Rattle.journal.specs.Device.{Device, Choice, chosen, Cursor, cursorAt, cursor, leasesAt, leases}
 use Rattle.journal.specs.Image.{tableIn, sideOf, deviceOf, unread, Recovered, countOf}
-use Rattle.std.proofs.shelf.Tests.{cond-true, lt-ltb}
+use Rattle.std.proofs.shelf.Tests.{cond-true, lt-ltb, cases-lt}
+use Rattle.std.proofs.shelf.Lists.{getD-past}
+use mathlib.Core.Logic.{_⊎_, inl, inr}
+use Rattle.journal.specs.Laws.{Ready, Sound}
+use Rattle.journal.proofs.Tables.{none-some}
+use Rattle.journal.proofs.Runs.{filed-at, none-at}
 use Rattle.journal.proofs.Reading.{table-same, reads-le}
 
 put-more : (o : Option Record) (z : Bool) (t u : Table) (a : ℕ) → t a ≡ u a → putIn (placeFrom o false) t a ≡ putIn (placeFrom o z) u a
@@ -59,3 +64,21 @@ restored bs rows i h found.Table r a =
     table-same (λ k. placeOf (getD bs (i * 4096 + k) [])) (deviceOf bs (sideOf i)) (getD rows i unread .count) (λ k l. place-of bs i k (r .within) (omega arith)) a
     ∙ ap (λ (n : ℕ). tableOf (deviceOf bs (sideOf i)) n a) (ap (λ (c : Cursor). c .count) (r .cursor ∙ ap (cursorAt 4096 (deviceOf bs)) (sym (r .choice))))
     ∙ ap (λ (c : Choice). leasesAt 4096 (deviceOf bs) c a) (r .choice)
+
+-- a server that has read its device into a table can go on from it
+pub rereads : (d : Device) (c : Cursor) (xs : List (Option Lease)) → c ≡ cursor 4096 d → ((a : ℕ) → a < length xs → getD xs a None ≡ leases 4096 d a) →
+    Sound 4096 d → (then : ℕ) → Ready 4096 (length xs) then d c (tableIn xs)
+rereads d c xs e h sound then =
+    record {
+      sound = sound;
+      same = e;
+      agrees = λ a l. ap (keptOf then) (sym (h a l));
+      filed = λ a l q. elim (cases-lt a (length xs)) [
+        | inl m ↦ filed-at 4096 d (chosen 4096 d) a l (sym (h a m) ∙ q)
+        | inr m ↦ absurd (none-some l (sym (getD-past xs a None m) ∙ q))
+      ];
+      none = λ q a. elim (cases-lt a (length xs)) [
+        | inl m ↦ h a m ∙ none-at 4096 d (chosen 4096 d) q a
+        | inr m ↦ getD-past xs a None m
+      ];
+    }

@@ -30,12 +30,12 @@ pub record Holds (R n : ℕ) (s : State) : Type 0 where
   pub found : isFound (chosen R (s .device)) ≡ s .begun
   pub behind : s .clock ≤ s .latest
 
-filed-at : (R : ℕ) (d : Device) (c : Choice) → Filed (leasesAt R d c)
+pub filed-at : (R : ℕ) (d : Device) (c : Choice) → Filed (leasesAt R d c)
 filed-at R d New = filed-empty
 filed-at R d Lost = filed-empty
 filed-at R d (Found s) = filed-table (d s) _
 
-none-at : (R : ℕ) (d : Device) (c : Choice) → isFound c ≡ false → (a : ℕ) → leasesAt R d c a ≡ None
+pub none-at : (R : ℕ) (d : Device) (c : Choice) → isFound c ≡ false → (a : ℕ) → leasesAt R d c a ≡ None
 none-at R d New e a = refl
 none-at R d Lost e a = refl
 none-at R d (Found s) e a = absurd (both-ways _ e refl)

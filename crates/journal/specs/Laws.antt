@@ -9,13 +9,31 @@ use lib.ListN.{length}
 use Rattle.std.specs.declared.option.Option.the-variants.{Some, None}
 use Rattle.lease.specs.declared.lease.Lease.{Lease}
 use Rattle.journal.specs.declared.record.Record.{Record}
-use Rattle.journal.specs.Place.{Place, Holds, height, baseOf}
+use Rattle.journal.specs.Place.{Place, Blank, Holds, height, baseOf}
 use Rattle.journal.specs.Table.{Table, empty, set, Agree, Filed}
 use Rattle.journal.specs.Row.{Row, numbers, first, reads, whole}
-use Rattle.journal.specs.Device.{Side, other, Device, Choice, Cursor, chosen, isFound, cursor, leases}
+use Rattle.journal.specs.Device.{Side, other, Device, Choice, New, Cursor, chosen, isFound, cursor, leases}
 use Rattle.journal.specs.Append.{Plan, plan, writes, after, perform}
 use Rattle.journal.specs.Crash.{Cut, Untouched, Whole, Tears, Zeroes, cutAt, lands, Damaged}
 use Rattle.journal.specs.Run.{Operation, Append, Crash, Restart, Clock, Damage, State, start, run, Allowed, Each, Any}
+
+-- what is read of a row is its longest front whose places have the sequence numbers from its first on
+pub record Front (row : Row) (R n : ℕ) : Type 0 where
+  pub few : n ≤ R
+  pub each : (k : ℕ) → k < n → numbers (first row + k) (row k) ≡ true
+  pub stops : n < R → numbers (first row + n) (row n) ≡ false
+
+abbrev pub RowIsRead : Type 0
+RowIsRead = (row : Row) (R : ℕ) → Front row R (reads row R)
+
+-- zeros alone are new, and nothing else is taken for new; with no table neither row is whole
+pub record Tells (R : ℕ) (d : Device) : Type 0 where
+  pub new : chosen R d ≡ New → (s : Side) (k : ℕ) → k < R → d s k ≡ Blank
+  pub zeros : ((s : Side) (k : ℕ) → k < R → d s k ≡ Blank) → chosen R d ≡ New
+  pub none : isFound (chosen R d) ≡ false → Damaged R d
+
+abbrev pub ChoiceTells : Type 0
+ChoiceTells = (R : ℕ) (d : Device) → Tells R d
 
 -- a row whose first `n` places have the sequence numbers from `f` on, and everything behind them is older
 pub record Begun (R : ℕ) (row : Row) (n f b : ℕ) : Type 0 where

@@ -12,7 +12,7 @@ use Rattle.journal.specs.Table.{set}
 use Rattle.journal.specs.Device.{chosen, isFound}
 use Rattle.journal.specs.Append.{Plan, plan, writes}
 use Rattle.journal.specs.Crash.{Cut, cutAt, lands}
-use Rattle.journal.specs.Laws.{Ready, Survives}
+use Rattle.journal.specs.Laws.{Ready, Sound, Survives}
 use Rattle.journal.specs.Image.{tableIn}
 use Rattle.journal.specs.Memory.{cursorOf, placesOf}
 
@@ -29,3 +29,7 @@ Stands clock xs j k x = (then : ℕ) → clock ≤ then → Ready 4096 (length x
 abbrev pub Outlives : (clock : ℕ) → List (Option Lease) → (before : Journal) → Lease → Type 0
 Outlives clock xs j x = (then i : ℕ) (k : Cut) → length xs < 4096 → clock ≤ then → Ready 4096 (length xs) then (placesOf j) (cursorOf j) (tableIn xs) →
     Survives 4096 (length xs) then (placesOf j) (cutAt i k (writes (planned j clock xs) x) (placesOf j)) (tableIn xs) (set x (tableIn xs)) (lands i k (length (writes (planned j clock xs) x)))
+
+-- a server that reads its device anew can append to it
+abbrev pub Rereads : Journal → List (Option Lease) → Type 0
+Rereads j xs = Sound 4096 (placesOf j) → (then : ℕ) → Ready 4096 (length xs) then (placesOf j) (cursorOf j) (tableIn xs)

@@ -1,5 +1,5 @@
 // The journal's laws through crashes, over places: each is asked for by a function's contract.
-ghost use Rattle.journal.specs.Laws.{AllSurvive, AnsweredStays, AppendStands, AppendSurvives, LastIsCut, NoneAppears, NoneTwice};
+ghost use Rattle.journal.specs.Laws.{AllSurvive, AnsweredStays, AppendStands, AppendSurvives, ChoiceTells, LastIsCut, NoneAppears, NoneTwice, RowIsRead};
 ghost use Rattle.journal.specs.Witness.{Switches};
 
 // After a whole append recovery gives the table with that lease, and goes on where the server does.
@@ -54,6 +54,20 @@ pub fn none_twice() -> u8
 // A row switch that is cut, begun anew and cut again, and then done.
 pub fn switches() -> u8
     ensures { λ _. ⌜ Switches ⌝ }
+{
+    0
+}
+
+// What is read of a row is its longest front in sequence.
+pub fn row_is_read() -> u8
+    ensures { λ _. ⌜ RowIsRead ⌝ }
+{
+    0
+}
+
+// Zeros alone are new, and nothing else is; with no table neither row is whole.
+pub fn choice_tells() -> u8
+    ensures { λ _. ⌜ ChoiceTells ⌝ }
 {
     0
 }

@@ -12,6 +12,7 @@ ghost use Rattle.std.specs.Vec.{made};
 ghost use Rattle.journal.specs.declared.state.Found.the-variants.{New, Lost};
 ghost use Rattle.journal.specs.Device.{Device, Row0, Row1, leases, newerOf};
 ghost use Rattle.journal.specs.Image.{Cut, Knows, OpenRefused, Recovered, countOf, deviceOf, sideOf, tableIn, unread};
+ghost use Rattle.journal.specs.Promise.{Rereads};
 ghost use Rattle.journal.specs.Bytes.{placeFrom, placeOf};
 ghost use Rattle.journal.specs.Row.{putIn, tableOf};
 use crate::journal::Journal;
@@ -204,6 +205,7 @@ impl Journal {
         ensures journal { λ _. ⌜ Recovered (deviceOf (vec-items (now (self .exit) .device))) (now (self .exit) .rows) (now (self .exit) .active) (now (self .exit) .highest) (now (self .exit) .found) ⌝ }
         ensures found { λ r. ⌜ r ≡ now (self .exit) .found ⌝ }
         ensures table { λ _. ⌜ ((a : ℕ) → a < length (now (table .exit)) → getD (now (table .exit)) a None ≡ leases 4096 (deviceOf (vec-items (now (self .exit) .device))) a) ⌝ }
+        ensures ready { λ _. ⌜ Rereads (now (self .exit)) (now (table .exit)) ⌝ }
     {
         let reading = read(&self.device);
         restore(&self.device, reading.active * 4096, reading.count(), table);

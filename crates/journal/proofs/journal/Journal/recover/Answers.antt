@@ -9,8 +9,8 @@ use Rattle.journal.specs.declared.open.Reading.{Reading}
 use Rattle.journal.specs.Bytes.{placeOf}
 use Rattle.journal.specs.Row.{tableOf}
 use Rattle.journal.specs.Device.{leases}
-use Rattle.journal.specs.Image.{Recovered, countOf, deviceOf, unread}
-use Rattle.journal.proofs.Restores.{count-few, restored}
+use Rattle.journal.specs.Image.{Recovered, countOf, cursorFrom, deviceOf, unread}
+use Rattle.journal.proofs.Restores.{count-few, restored, rereads}
 use Rattle.journal.proofs.journal.Journal.recover.Needs as need
 
 pub restore-requires : need.restore-requires
@@ -25,12 +25,15 @@ returns c =
     let r : Reading = c .read-reading .result in
     let w : Recovered (deviceOf bs) (r .rows) (r .active) (r .highest) (r .found) =
     subst (λ (v : List (List ℕ)). Recovered (deviceOf v) (r .rows) (r .active) (r .highest) (r .found)) (c .deref .ensures .value) (c .read-reading .ensures) in
+    let t : (a : ℕ) → a < length (c .restore .last .table) → getD (c .restore .last .table) a None ≡ leases 4096 (deviceOf bs) a =
+    λ a l. c .restore .ensures a l
+    ∙ ap (λ (v : List (List ℕ)). tableOf (λ k. placeOf (getD v (r .active * 4096 + k) [])) (c .count .result) a) (c .deref-2 .ensures .value)
+    ∙ ap (λ (n : ℕ). tableOf (λ k. placeOf (getD bs (r .active * 4096 + k) [])) n a) (c .count .ensures)
+    ∙ restored bs (r .rows) (r .active) (r .highest) (r .found) w a in
     record {
       device = refl;
       journal = w;
       found = refl;
-      table = λ a l. c .restore .ensures a l
-          ∙ ap (λ (v : List (List ℕ)). tableOf (λ k. placeOf (getD v (r .active * 4096 + k) [])) (c .count .result) a) (c .deref-2 .ensures .value)
-          ∙ ap (λ (n : ℕ). tableOf (λ k. placeOf (getD bs (r .active * 4096 + k) [])) n a) (c .count .ensures)
-          ∙ restored bs (r .rows) (r .active) (r .highest) (r .found) w a;
+      table = t;
+      ready = rereads (deviceOf bs) (cursorFrom (r .rows) (r .active) (r .highest)) (c .restore .last .table) (w .cursor) t;
     }
