@@ -56,7 +56,7 @@ impl RowState {
 }
 
 // Of the rows that have a record, the one with the higher first sequence number.
-fn newer(a: RowState, b: RowState) -> usize
+fn newer_of(a: RowState, b: RowState) -> usize
     ensures side { λ r. ⌜ sideOf r ≡ newerOf (leb 1 (a .count)) (leb 1 (b .count)) (ltb (a .first) (b .first)) ⌝ }
     ensures within { λ r. ⌜ r < 2 ⌝ }
 {
@@ -79,41 +79,49 @@ fn without_table(blank0: bool, blank1: bool) -> Found
     Found::Lost
 }
 
-// The newer row if it is whole, else the older if it is whole; with neither, the next record begins row 0, as if row 1 were full.
-fn choose(a: RowScan, b: RowScan) -> Reading
-    ensures { λ r. ⌜ ((d : Device) → Knows (d Row0) 4096 a → Knows (d Row1) 4096 b → Recovered d (r .rows) (r .active) (r .highest) (r .found)) ⌝ }
+// With no table the next record begins row 0: as if row 1 were active and full.
+fn beginning(row0: RowState, highest: u64, found: Found) -> Reading
+    ensures { λ r. ⌜ r ≡ record { rows = row0 ∷ record { first = 0; base = 0; count = 4096 } ∷ []; active = 1; highest = highest; found = found } ⌝ }
 {
-    let highest = a.highest.max(b.highest);
-    let rows = [a.row, b.row];
-    let active = newer(a.row, b.row);
-    if rows[active].is_whole() {
-        return Reading {
-            rows,
-            active,
-            highest,
-            found: Found::Table,
-        };
-    }
-    let active = 1 - active;
-    if rows[active].is_whole() {
-        return Reading {
-            rows,
-            active,
-            highest,
-            found: Found::Table,
-        };
-    }
     let full = RowState {
         first: 0,
         base: 0,
         count: 4096,
     };
     Reading {
-        rows: [a.row, full],
+        rows: [row0, full],
         active: 1,
         highest,
-        found: without_table(a.blank, b.blank),
+        found,
     }
+}
+
+// The newer row if it is whole, else the older if it is whole.
+fn choose(a: RowScan, b: RowScan) -> Reading
+    ensures { λ r. ⌜ ((d : Device) → Knows (d Row0) 4096 a → Knows (d Row1) 4096 b → Recovered d (r .rows) (r .active) (r .highest) (r .found)) ⌝ }
+{
+    let highest = a.highest.max(b.highest);
+    let rows = [a.row, b.row];
+    let newer = newer_of(a.row, b.row);
+    let older = 1 - newer;
+    let found = Found::Table;
+    if rows[newer].is_whole() {
+        return Reading {
+            rows,
+            active: newer,
+            highest,
+            found,
+        };
+    }
+    if rows[older].is_whole() {
+        return Reading {
+            rows,
+            active: older,
+            highest,
+            found,
+        };
+    }
+    beginning(a.row, highest, without_table(a.blank, b.blank))
 }
 
 fn read(device: &[[u8; 28]]) -> Reading
