@@ -1,31 +1,24 @@
 ghost use mathlib.Core.Path.{_≡_};
-ghost use mathlib.Core.Bool.{cond, true};
-ghost use mathlib.Core.List.{[], _∷_};
-ghost use Prim.Native.Nat.{ℕ, suc, _+_, _*_, _^_, _<_, _≤_, max};
-ghost use lib.ListN.{length, getD, set};
+ghost use mathlib.Core.Bool.{cond};
+ghost use Prim.Native.Nat.{suc, _+_, _*_, _^_, _<_, _≤_};
+ghost use lib.ListN.{length, getD};
 ghost use ghost.Atoms.{sem};
 ghost use denote.Array.{Array};
 ghost use denote.Builtin.{u8 as byte};
 ghost use denote.Follow.{follows};
 ghost use denote.Ref.{name};
 ghost use Rattle.std.specs.Changed.{with-item};
-ghost use Rattle.std.specs.Of.Vec.{vec-items, vec-len};
-ghost use Rattle.journal.specs.contracts.journal.Journal.{the-row};
-ghost use Rattle.journal.specs.declared.state.Found.the-variants.{Table};
-ghost use Rattle.journal.specs.Bytes.{decoded, encoded};
-ghost use Rattle.journal.specs.Image.{index, tableIn, unread};
-ghost use Rattle.journal.specs.Memory.{AppendRefused, Appended, Copied, LegibleWith, cursorOf, nextRecord, placesOf, putWith, storedWith, went, wentWith};
-ghost use Rattle.journal.specs.Append.{exhausted, inOther, inRow, put};
-ghost use Rattle.journal.specs.Device.{other as across};
-ghost use Rattle.journal.specs.Place.{Holds};
-ghost use Rattle.journal.specs.Table.{keeping, keptOf};
-ghost use Rattle.lease.specs.declared.fault.Fault.the-variants.{CountExhausted};
-ghost use Rattle.std.specs.declared.option.Option.the-variants.{Some};
+ghost use Rattle.std.specs.Of.Vec.{vec-items};
 ghost use Rattle.std.specs.Options.{isSome};
-ghost use Rattle.journal.specs.Durable.{CutFile};
-ghost use Rattle.journal.specs.Promise.{Outlives, Stands, planned};
 ghost use Rattle.std.specs.Results.{Cases};
 ghost use Rattle.std.specs.Vec.{made};
+ghost use Rattle.journal.specs.contracts.journal.Journal.{the-row};
+ghost use Rattle.journal.specs.Append.{inOther, inRow};
+ghost use Rattle.journal.specs.Durable.{CutFile};
+ghost use Rattle.journal.specs.Image.{tableIn, unread};
+ghost use Rattle.journal.specs.Memory.{AppendRefused, Appended, Copied, Room, Tried, Wrote, WroteSome, cursorOf, placesOf, turnedTo};
+ghost use Rattle.journal.specs.Promise.{Outlives, Stands, planned};
+ghost use Rattle.journal.specs.Table.{keeping, keptOf};
 use crate::journal::Journal;
 use crate::record::Record;
 use crate::state::Found;
@@ -47,14 +40,8 @@ impl Journal {
 
     // Writes a lease into the next place of the active row.
     fn write(&mut self, lease: Lease)
-        requires room { ⌜ cursorOf (now self) .count < 4096 ⌝ }
-        requires early { ⌜ cursorOf (now self) .first + cursorOf (now self) .count < 2 ^ 63 ⌝ }
-        ensures bytes { λ _. ⌜ vec-items (now (self .exit) .device) ≡ set (vec-items (now (self .entry) .device)) (index (cursorOf (now (self .entry)) .side) (cursorOf (now (self .entry)) .count)) (encoded (nextRecord (cursorOf (now (self .entry))) lease)) ⌝ }
-        ensures device { λ _. ⌜ placesOf (now (self .exit)) ≡ put (cursorOf (now (self .entry)) .side) (cursorOf (now (self .entry)) .count) (Holds (nextRecord (cursorOf (now (self .entry))) lease)) (placesOf (now (self .entry))) ⌝ }
-        ensures legible { λ _. ⌜ decoded (encoded (nextRecord (cursorOf (now (self .entry))) lease)) ≡ Some (nextRecord (cursorOf (now (self .entry))) lease) ⌝ }
-        ensures cursor { λ _. ⌜ cursorOf (now (self .exit)) ≡ went (cursorOf (now (self .entry))) ⌝ }
-        ensures active { λ _. ⌜ now (self .exit) .active ≡ now (self .entry) .active ⌝ }
-        ensures found { λ _. ⌜ now (self .exit) .found ≡ Table ⌝ }
+        requires { ⌜ Room (now self) ⌝ }
+        ensures { λ _. ⌜ Wrote (now (self .entry)) (now (self .exit)) lease ⌝ }
     {
         let a = self.active;
         let row = self.rows[a];
@@ -74,13 +61,8 @@ impl Journal {
     }
 
     fn write_some(&mut self, lease: Option<Lease>)
-        requires room { ⌜ cursorOf (now self) .count < 4096 ⌝ }
-        requires early { ⌜ cursorOf (now self) .first + cursorOf (now self) .count < 2 ^ 63 ⌝ }
-        ensures bytes { λ _. ⌜ vec-items (now (self .exit) .device) ≡ storedWith lease (cursorOf (now (self .entry))) (vec-items (now (self .entry) .device)) ⌝ }
-        ensures device { λ _. ⌜ placesOf (now (self .exit)) ≡ putWith lease (cursorOf (now (self .entry))) (placesOf (now (self .entry))) ⌝ }
-        ensures legible { λ _. ⌜ LegibleWith lease (cursorOf (now (self .entry))) ⌝ }
-        ensures cursor { λ _. ⌜ cursorOf (now (self .exit)) ≡ wentWith lease (cursorOf (now (self .entry))) ⌝ }
-        ensures active { λ _. ⌜ now (self .exit) .active ≡ now (self .entry) .active ⌝ }
+        requires { ⌜ Room (now self) ⌝ }
+        ensures { λ _. ⌜ WroteSome (now (self .entry)) (now (self .exit)) lease ⌝ }
     {
         if let Some(some) = lease {
             self.write(some);
@@ -91,7 +73,7 @@ impl Journal {
     fn turn(&mut self, base: u16)
         requires { ⌜ now self .highest < 2 ^ 63 ⌝ }
         ensures bytes { λ _. ⌜ vec-items (now (self .exit) .device) ≡ vec-items (now (self .entry) .device) ⌝ }
-        ensures cursor { λ _. ⌜ cursorOf (now (self .exit)) ≡ record { side = across (cursorOf (now (self .entry)) .side); first = suc (now (self .entry) .highest); count = 0; base = base; highest = now (self .entry) .highest } ⌝ }
+        ensures cursor { λ _. ⌜ cursorOf (now (self .exit)) ≡ turnedTo (cursorOf (now (self .entry))) base ⌝ }
     {
         let other = 1 - self.active;
         let first = self.highest + 1;
@@ -123,7 +105,7 @@ impl Journal {
 impl Journal {
     fn append_in_row(&mut self, lease: Lease) -> Result<Written, Fault>
         requires { ⌜ cursorOf (now self) .count < 4096 ⌝ }
-        ensures { λ r. ⌜ Cases r (λ w. Appended (now (self .entry)) (now (self .exit)) (inRow (cursorOf (now (self .entry)))) lease w) (λ f. (f ≡ CountExhausted) × (exhausted (inRow (cursorOf (now (self .entry)))) ≡ true) × (now (self .exit) ≡ now (self .entry))) ⌝ }
+        ensures { λ r. ⌜ Tried (now (self .entry)) (now (self .exit)) (inRow (cursorOf (now (self .entry)))) lease r ⌝ }
     {
         let a = self.active;
         let row = self.rows[a];
@@ -144,7 +126,7 @@ impl Journal {
         lease: Lease,
     ) -> Result<Written, Fault>
         requires { ⌜ length (now table) < 4096 ⌝ }
-        ensures { λ r. ⌜ Cases r (λ w. Appended (now (self .entry)) (now (self .exit)) (inOther (length (now (table .entry))) clock (cursorOf (now (self .entry))) (tableIn (now (table .entry)))) lease w) (λ f. (f ≡ CountExhausted) × (exhausted (inOther (length (now (table .entry))) clock (cursorOf (now (self .entry))) (tableIn (now (table .entry)))) ≡ true) × (now (self .exit) ≡ now (self .entry))) ⌝ }
+        ensures { λ r. ⌜ Tried (now (self .entry)) (now (self .exit)) (inOther (length (now (table .entry))) clock (cursorOf (now (self .entry))) (tableIn (now (table .entry)))) lease r ⌝ }
     {
         let kept = count_kept(clock, table);
         if self.highest >= (1 << 63) - 1 - kept as u64 {

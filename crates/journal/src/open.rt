@@ -4,6 +4,7 @@ ghost use mathlib.Core.List.{[], _∷_};
 ghost use Prim.Native.Nat.{ℕ, _+_, _*_, _/_, _<_, _≤_};
 ghost use lib.Dec.{leb, ltb};
 ghost use lib.ListN.{length, getD};
+ghost use lib.Seq.{paste};
 ghost use Rattle.std.specs.Holes.{between};
 ghost use Rattle.std.specs.Of.Vec.{vec-cap, vec-items, vec-len};
 ghost use Rattle.std.specs.declared.option.Option.the-variants.{None, Some};
@@ -241,4 +242,28 @@ impl Journal {
         }
         None
     }
+
+    // Copies a place into its part of an image of the device, if the image has it.
+    pub fn store(&self, k: usize, image: &mut [u8]) -> bool
+        ensures test { λ r. ⌜ r ≡ (ltb k 8192 && leb (k * 28 + 28) (length (now (image .entry)))) ⌝ }
+        ensures image { λ r. ⌜ now (image .exit) ≡ cond r (paste (now (image .entry)) (k * 28) (getD (vec-items (now (self .entry) .device)) k []) 28) (now (image .entry)) ⌝ }
+    {
+        if k >= 8192 {
+            return false;
+        }
+        let at = k * 28;
+        if image.len() < at + 28 {
+            return false;
+        }
+        let place = self.device[k];
+        fill(&mut image[at..at + 28], &place);
+        true
+    }
+}
+
+fn fill(part: &mut [u8], place: &[u8; 28])
+    requires { ⌜ length (now part) ≡ 28 ⌝ }
+    ensures { λ _. ⌜ now (part .exit) ≡ now (place .entry) ⌝ }
+{
+    part.copy_from_slice(place);
 }

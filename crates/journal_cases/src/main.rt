@@ -262,7 +262,9 @@ fn try_device(rt: &LibcRuntime, heap: Global, what: u32) -> Result<(), AnyError>
         tell(rt, &journal, answer)?;
     }
     for k in 0..8192 {
-        persist(&mut image, &journal, k, 28);
+        if !journal.store(k, &mut image) {
+            return Err("no such place".into());
+        }
     }
     show(rt, what, journal.found(), &image, &table)
 }
