@@ -22,6 +22,8 @@ ghost use Rattle.journal.specs.Table.{keeping, keptOf};
 use crate::journal::Journal;
 use crate::record::Record;
 use crate::state::Found;
+use crate::state::LIMIT;
+use crate::state::ROW;
 use crate::state::RowState;
 use crate::state::Written;
 use lease::Fault;
@@ -34,7 +36,7 @@ impl Journal {
         ensures follows { λ r. sem 𝓤 H A (follows the-row (Array byte 28) (name (self .entry)) (name r) (λ w. record { device = with-item (now (self .entry) .device) (now (self .entry) .active * 4096 + getD (now (self .entry) .rows) (now (self .entry) .active) unread .count) w; rows = now (self .entry) .rows; active = now (self .entry) .active; highest = now (self .entry) .highest; found = now (self .entry) .found; sized = now (self .entry) .sized; one = now (self .entry) .one })) }
     {
         let a = self.active;
-        let i = a * 4096 + self.rows[a].count;
+        let i = a * ROW + self.rows[a].count;
         &mut self.device[i]
     }
 
@@ -84,9 +86,7 @@ impl Journal {
         };
         self.active = other;
     }
-}
 
-impl Journal {
     // Writes the leases of a table that are kept into a row that was just begun.
     fn copy(&mut self, clock: u64, table: &[Option<Lease>])
         requires fresh { ⌜ cursorOf (now self) .count ≡ 0 ⌝ }
@@ -100,21 +100,19 @@ impl Journal {
             self.write_some(kept(clock, table[i]));
         }
     }
-}
 
-impl Journal {
     fn append_in_row(&mut self, lease: Lease) -> Result<Written, Fault>
         requires { ⌜ cursorOf (now self) .count < 4096 ⌝ }
         ensures { λ r. ⌜ Tried (now (self .entry)) (now (self .exit)) (inRow (cursorOf (now (self .entry)))) lease r ⌝ }
     {
         let a = self.active;
         let row = self.rows[a];
-        if row.first >= (1 << 63) - row.count as u64 {
+        if row.first >= LIMIT - row.count as u64 {
             return Err(Fault::CountExhausted);
         }
         self.write(lease);
         Ok(Written {
-            first: a * 4096 + row.count,
+            first: a * ROW + row.count,
             count: 1,
         })
     }
@@ -129,20 +127,18 @@ impl Journal {
         ensures { λ r. ⌜ Tried (now (self .entry)) (now (self .exit)) (inOther (length (now (table .entry))) clock (cursorOf (now (self .entry))) (tableIn (now (table .entry)))) lease r ⌝ }
     {
         let kept = count_kept(clock, table);
-        if self.highest >= (1 << 63) - 1 - kept as u64 {
+        if self.highest >= LIMIT - 1 - kept as u64 {
             return Err(Fault::CountExhausted);
         }
         self.turn(kept as u16);
         self.copy(clock, table);
         self.write(lease);
         Ok(Written {
-            first: self.active * 4096,
+            first: self.active * ROW,
             count: kept + 1,
         })
     }
-}
 
-impl Journal {
     // Writes a lease, and before it the leases that are kept where a row is begun. Once the places written are durable, each before the next, the lease may be answered.
     pub fn append(
         &mut self,
@@ -155,10 +151,10 @@ impl Journal {
         ensures file { λ r. ⌜ made r (λ w. CutFile (now (self .entry)) (now (self .exit)) (planned (now (self .entry)) clock (now (table .entry))) lease w) ⌝ }
         ensures outlives { λ _. ⌜ Outlives clock (now (table .entry)) (now (self .entry)) lease ⌝ }
     {
-        if table.len() >= 4096 {
+        if table.len() >= ROW {
             return Err(Fault::BadSettings);
         }
-        if self.rows[self.active].count < 4096 {
+        if self.rows[self.active].count < ROW {
             return self.append_in_row(lease);
         }
         self.append_in_other(clock, table, lease)

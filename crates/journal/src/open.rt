@@ -20,8 +20,11 @@ use crate::journal::Journal;
 use crate::record::Record;
 use crate::scan::RowScan;
 use crate::scan::scan_row;
+use crate::state::DEVICE;
 use crate::state::Found;
 use crate::state::OpenError;
+use crate::state::PLACES;
+use crate::state::ROW;
 use crate::state::RowState;
 use lease::Lease;
 
@@ -87,7 +90,7 @@ fn beginning(row0: RowState, highest: u64, found: Found) -> Reading
     let full = RowState {
         first: 0,
         base: 0,
-        count: 4096,
+        count: ROW,
     };
     Reading {
         rows: [row0, full],
@@ -129,14 +132,14 @@ fn read(device: &[[u8; 28]]) -> Reading
     requires { ⌜ length (now device) ≡ 8192 ⌝ }
     ensures { λ r. ⌜ Recovered (deviceOf (now (device .entry))) (r .rows) (r .active) (r .highest) (r .found) ⌝ }
 {
-    choose(scan_row(device, 0), scan_row(device, 4096))
+    choose(scan_row(device, 0), scan_row(device, ROW))
 }
 
 fn load(device: &mut Vec<[u8; 28]>, bytes: &[u8])
     requires { ⌜ vec-len (now device) ≡ 0 ⌝ ∗ ⌜ 8192 ≤ vec-cap (now device) ⌝ ∗ ⌜ length (now bytes) ≡ 229376 ⌝ }
     ensures { λ _. ⌜ Cut (now (bytes .entry)) (vec-items (now (device .exit))) ⌝ }
 {
-    for i in 0..8192 {
+    for i in 0..PLACES {
         let mut place = [0u8; 28];
         place.copy_from_slice(&bytes[i * 28..i * 28 + 28]);
         device.push_reserved(place);
@@ -173,14 +176,14 @@ fn put_record(table: &mut [Option<Lease>], record: Option<Record>)
 pub fn device_bytes() -> usize
     ensures { λ r. ⌜ r ≡ 229376 ⌝ }
 {
-    229_376
+    DEVICE
 }
 
 // How many places a device has, 28 bytes each.
 pub fn device_places() -> usize
     ensures { λ r. ⌜ r ≡ 8192 ⌝ }
 {
-    8192
+    PLACES
 }
 
 impl Journal {
@@ -188,10 +191,10 @@ impl Journal {
     pub fn open(room: Vec<[u8; 28]>, bytes: &[u8]) -> Result<Journal, OpenError>
         ensures { λ r. ⌜ Cases r (λ j. Cut (now (bytes .entry)) (vec-items (j .device)) × Recovered (deviceOf (vec-items (j .device))) (j .rows) (j .active) (j .highest) (j .found)) (λ e. OpenRefused e (length (now (bytes .entry))) (vec-cap room)) ⌝ }
     {
-        if bytes.len() != 229_376 {
+        if bytes.len() != DEVICE {
             return Err(OpenError::WrongLength);
         }
-        if room.capacity() < 8192 {
+        if room.capacity() < PLACES {
             return Err(OpenError::NoRoom);
         }
         let mut device = room;
@@ -217,7 +220,7 @@ impl Journal {
         ensures ready { λ _. ⌜ Rereads (now (self .exit)) (now (table .exit)) ⌝ }
     {
         let reading = read(&self.device);
-        restore(&self.device, reading.active * 4096, reading.count(), table);
+        restore(&self.device, reading.active * ROW, reading.count(), table);
         let rows = reading.rows;
         self.rows = rows;
         self.active = reading.active;
@@ -237,7 +240,7 @@ impl Journal {
     pub fn place(&self, k: usize) -> Option<[u8; 28]>
         ensures { λ r. ⌜ r ≡ cond (ltb k 8192) (Some (getD (vec-items (now (self .entry) .device)) k [])) None ⌝ }
     {
-        if k < 8192 {
+        if k < PLACES {
             return Some(self.device[k]);
         }
         None
@@ -248,7 +251,7 @@ impl Journal {
         ensures test { λ r. ⌜ r ≡ (ltb k 8192 && leb (k * 28 + 28) (length (now (image .entry)))) ⌝ }
         ensures image { λ r. ⌜ now (image .exit) ≡ cond r (paste (now (image .entry)) (k * 28) (getD (vec-items (now (self .entry) .device)) k []) 28) (now (image .entry)) ⌝ }
     {
-        if k >= 8192 {
+        if k >= PLACES {
             return false;
         }
         let at = k * 28;

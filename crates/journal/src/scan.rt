@@ -5,6 +5,7 @@ ghost use lib.ListN.{length, getD};
 ghost use Rattle.journal.specs.Bytes.{placeFrom, placeOf, zeros};
 ghost use Rattle.journal.specs.Image.{noted, rowNoted, scanned};
 use crate::record::Record;
+use crate::state::ROW;
 use crate::state::RowState;
 
 // A row as far as it is read, with the highest sequence number in it, read or not, and whether all of it is zeros.
@@ -90,7 +91,7 @@ pub(crate) fn scan_row(device: &[[u8; 28]], from: usize) -> RowScan
         highest: 0,
         blank: true,
     };
-    for k in 0..4096 {
+    for k in 0..ROW {
         let place = &device[from + k];
         scan = scan.noted(k, Record::decode(place), is_zero(place));
     }

@@ -1,3 +1,15 @@
+// The places of a row: more than the largest pool has addresses, so that a row begun with all their leases has room for the next.
+pub(crate) const ROW: usize = 4096;
+
+// The places of the device, in two rows.
+pub(crate) const PLACES: usize = 8192;
+
+// The bytes of the device, 28 to a place.
+pub(crate) const DEVICE: usize = 229_376;
+
+// Sequence numbers stay below this, so that a few can always be added.
+pub(crate) const LIMIT: u64 = 1 << 63;
+
 // What is known of a row: its first sequence number and base, and how many records are read of it.
 #[derive(Clone, Copy)]
 pub struct RowState {
