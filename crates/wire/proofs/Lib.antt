@@ -1,0 +1,5 @@
+pub mod Digits
+pub mod Exactness
+pub mod Judgement
+pub mod Readings
+pub mod Streams

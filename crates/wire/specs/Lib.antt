@@ -1,0 +1,10 @@
+pub mod Decode
+pub mod Frame
+pub mod Kind
+pub mod Laws
+pub mod Meant
+pub mod Message
+pub mod Numbers
+pub mod Read
+pub mod Reader
+pub mod Stream

@@ -1,0 +1,28 @@
+ghost use Rattle.wire.specs.Stream.{Delivered, Reads};
+
+// What a stream of messages, each with its length before it, begins with.
+#[derive(Clone, Copy)]
+pub enum Next<'a> {
+    // a message's bytes, and the stream after them
+    Message { bytes: &'a [u8], rest: &'a [u8] },
+    End,
+    // the stream ends within a message
+    Cut,
+}
+
+// The next message of a stream, whatever it holds.
+pub fn next_message(stream: &[u8]) -> Next<'_>
+    ensures reads { λ r. ⌜ Reads (now (stream .entry)) r ⌝ }
+    ensures delivered { λ _. ⌜ Delivered ⌝ }
+{
+    if stream.is_empty() {
+        return Next::End;
+    }
+    let size = usize::from(stream[0]);
+    let after = &stream[1..];
+    if after.len() < size {
+        return Next::Cut;
+    }
+    let (bytes, rest) = after.split_at(size);
+    Next::Message { bytes, rest }
+}
