@@ -5,11 +5,13 @@ use mathlib.Core.Path.{_≡_, refl, ap, ap₂, _∙_}
 use Prim.Native.Nat.{ℕ, zero, suc, _+_, _≤_, _<_}
 use native.Mathlib.Omega.{arith}
 use lib.Dec.{ltb}
-use lib.ListN.{length, take, drop, length-drop, length-append}
-use Rattle.std.proofs.shelf.Lists.{take-at, drop-at, append-assoc}
+use lib.ListN.{length, getD, take, drop, length-drop, length-append}
+use Rattle.std.proofs.shelf.Lists.{nil-from-length, take-at, drop-at, append-assoc}
 use Rattle.std.proofs.shelf.Tests.{cond-true, cond-false, lt-ltb, le-ltb}
 use Rattle.std.specs.Joined.{joined}
-use Rattle.wire.specs.Stream.{Delivered, framed, Held, none, broken, after, held, held-by}
+use Rattle.wire.specs.declared.stream.Next.{Next}
+use Rattle.wire.specs.declared.stream.Next.the-variants.{Message, End, Cut}
+use Rattle.wire.specs.Stream.{Splits, Reads, Delivered, framed, Held, none, broken, after, held, held-by}
 
 -- more turns than bytes change nothing
 enough : (t u : ℕ) (bs : List ℕ) → length bs ≤ t → length bs ≤ u → held-by t bs ≡ held-by u bs
@@ -43,3 +45,16 @@ pub delivered : Delivered
 delivered [] tail = refl
 delivered (m ∷ ms) tail =
     ap held (append-assoc (framed m) (joined framed ms) tail) ∙ (held-first m (joined framed ms ++ tail) ∙ ap (after m) (delivered ms tail))
+
+-- a list that is not empty, by its first
+opened : (s : List ℕ) → 0 < length s → s ≡ getD s 0 0 ∷ drop 1 s
+opened [] h = absurd (omega arith)
+opened (n ∷ bs) h = refl
+
+pub reads : (s : List ℕ) (next : Next) → Splits s next → Reads s next
+reads s (Message bytes rest) e =
+    record { splits = e; holds = (ap held e ∙ held-first (bytes .now) (rest .now), omega (arith, ap length e, length-append (bytes .now) (rest .now))) }
+reads s End e = record { splits = e; holds = ap held (nil-from-length s e) ∙ held-none }
+reads s Cut e =
+    let o : s ≡ getD s 0 0 ∷ drop 1 s = opened s (e .0) in
+    record { splits = e; holds = ap held o ∙ held-cut (getD s 0 0) (drop 1 s) (omega (arith, ap length o, e .1)) }

@@ -37,26 +37,21 @@ held-by (suc turns) (n ∷ bs) = cond (ltb (length bs) n) broken (after (take n 
 unfoldable pub held : List ℕ → Held
 held bs = held-by (length bs) bs
 
--- a stream that begins with a message
-pub record Begins (s bytes rest : List ℕ) : Type 0 where
-  pub is : s ≡ framed bytes ++ rest
-  pub shorter : length rest < length s
-  pub holds : held s ≡ after bytes (held rest)
+-- how a stream begins: with a whole message, not at all, or with a message that it ends within
+abbrev pub Splits : List ℕ → Next → Type 0
+Splits s (Message bytes rest) = s ≡ framed (bytes .now) ++ rest .now
+Splits s End = length s ≡ 0
+Splits s Cut = (0 < length s) × (length s ≤ getD s 0 0)
 
--- a stream that ends within its first message
-pub record Breaks (s : List ℕ) : Type 0 where
-  pub some : 0 < length s
-  pub short : length s ≤ getD s 0 0
-  pub holds : held s ≡ broken
+-- what it holds then
+abbrev pub Holds : List ℕ → Next → Type 0
+Holds s (Message bytes rest) = (held s ≡ after (bytes .now) (held (rest .now))) × (length (rest .now) < length s)
+Holds s End = held s ≡ none
+Holds s Cut = held s ≡ broken
 
-pub record Ends (s : List ℕ) : Type 0 where
-  pub is : s ≡ []
-  pub holds : held s ≡ none
-
-abbrev pub Reads : List ℕ → Next → Type 0
-Reads s (Message bytes rest) = Begins s (bytes .now) (rest .now)
-Reads s End = Ends s
-Reads s Cut = Breaks s
+pub record Reads (s : List ℕ) (next : Next) : Type 0 where
+  pub splits : Splits s next
+  pub holds : Holds s next
 
 -- a stream holds the messages that were put on it, whatever bytes each of them has, and then what stands behind them
 abbrev pub Delivered : Type 0

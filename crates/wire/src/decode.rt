@@ -1,10 +1,10 @@
 ghost use mathlib.Core.Path.{_≡_};
-ghost use lib.ListN.{length};
+ghost use lib.ListN.{length, getD};
 ghost use Rattle.std.specs.Vec.{made};
 ghost use Rattle.wire.specs.Decode.{decoded, judged, pool, received as receives};
 ghost use Rattle.wire.specs.Laws.{Taken};
-ghost use Rattle.wire.specs.Read.{fault-of, fields-at, read as reads};
-ghost use Rattle.wire.specs.Kind.{table};
+ghost use Rattle.wire.specs.Kind.{kind-of, table};
+ghost use Rattle.wire.specs.Read.{fault-of, fields-at, read-as};
 use crate::kind::Kind;
 use crate::message::Message;
 use crate::numbers::u16_at;
@@ -81,7 +81,7 @@ fn fields(kind: Kind, bytes: &[u8]) -> Option<Message>
 
 // The message that these bytes are, whoever reads them.
 fn read(bytes: &[u8]) -> Option<Message>
-    ensures { λ r. ⌜ r ≡ reads (now (bytes .entry)) ⌝ }
+    ensures { λ r. ⌜ r ≡ read-as (kind-of (getD (now (bytes .entry)) 0 0)) (now (bytes .entry)) ⌝ }
 {
     if bytes.is_empty() {
         return None;
