@@ -62,9 +62,9 @@ forgets clock up s = record { settings = s .settings; own = s .own; holder = kno
 abbrev pub crashes : State → Turn
 crashes s = cond (s .holder .up) (record { state = forgets (s .holder .clock) false s; says = stops (inUse s) }) (silently s)
 
--- one that is up crashes first
+-- a restart without a crash before it is a crash that nobody announced
 abbrev pub restarts : (clock : ℕ) → State → Result Turn lease.Fault
-restarts clock s = cond (leb (2 ^ 63) clock) (Err CountExhausted) (Ok (record { state = forgets clock true s; says = crashes s .says }))
+restarts clock s = cond (leb (2 ^ 63) clock) (Err CountExhausted) (Ok (record { state = forgets clock true s; says = stops (inUse s) }))
 
 -- its clock goes on by one, and with it an address may be over: then the schedule begins anew
 abbrev pub passes : State → Turn

@@ -7,6 +7,7 @@ ghost use Rattle.std.specs.Of.Vec.{vec-items, vec-len, vec-cap};
 ghost use Rattle.std.specs.Results.{isOk};
 ghost use Rattle.client.specs.Of.{stateOf, turnOf, stepOf, clientOf};
 ghost use Rattle.client.specs.State.{does};
+ghost use Rattle.client.specs.Laws.{Laws};
 ghost use Rattle.client.specs.Client.{fresh, queued, goesOn, hears, lends, lent};
 use crate::asking::Step;
 use crate::state::State;
@@ -97,8 +98,7 @@ impl Client {
         }
     }
 
-    // Hears one message's bytes, and appends what the client puts out then, in order. Without the memory for it, nothing changes.
-    pub fn hear(&mut self, bytes: &[u8], out: &mut Vec<Message>) -> Result<(), AllocError>
+    fn hear_bytes(&mut self, bytes: &[u8], out: &mut Vec<Message>) -> Result<(), AllocError>
         ensures client { λ r. ⌜ clientOf (now (self .exit)) ≡ cond (isOk r) (hears (now (bytes .entry)) (clientOf (now (self .entry))) .client) (clientOf (now (self .entry))) ⌝ }
         ensures out { λ r. ⌜ vec-items (now (out .exit)) ≡ cond (isOk r) (vec-items (now (out .entry)) ++ hears (now (bytes .entry)) (clientOf (now (self .entry))) .says) (vec-items (now (out .entry))) ⌝ }
         ensures succeeds { λ r. ⌜ (vec-len (now (out .entry)) + 3 ≤ vec-cap (now (out .entry)) → (lent (now (bytes .entry)) ≡ []) ⊎ (vec-len (now (self .entry) .nonces) < vec-cap (now (self .entry) .nonces)) → isOk r ≡ true) ⌝ }
@@ -112,5 +112,15 @@ impl Client {
             Err(fault) => out.push_reserved(Message::Fault(fault)),
         }
         Ok(())
+    }
+
+    // Hears one message's bytes, and appends what the client puts out then, in order. Without the memory for it, nothing changes.
+    pub fn hear(&mut self, bytes: &[u8], out: &mut Vec<Message>) -> Result<(), AllocError>
+        ensures client { λ r. ⌜ clientOf (now (self .exit)) ≡ cond (isOk r) (hears (now (bytes .entry)) (clientOf (now (self .entry))) .client) (clientOf (now (self .entry))) ⌝ }
+        ensures out { λ r. ⌜ vec-items (now (out .exit)) ≡ cond (isOk r) (vec-items (now (out .entry)) ++ hears (now (bytes .entry)) (clientOf (now (self .entry))) .says) (vec-items (now (out .entry))) ⌝ }
+        ensures succeeds { λ r. ⌜ (vec-len (now (out .entry)) + 3 ≤ vec-cap (now (out .entry)) → (lent (now (bytes .entry)) ≡ []) ⊎ (vec-len (now (self .entry) .nonces) < vec-cap (now (self .entry) .nonces)) → isOk r ≡ true) ⌝ }
+        ensures laws { λ _. ⌜ Laws (now (bytes .entry)) (clientOf (now (self .entry))) ⌝ }
+    {
+        self.hear_bytes(bytes, out)
     }
 }

@@ -1,6 +1,9 @@
 // A client: all of it but its input and output.
 mod asking;
 mod client;
+mod laws;
 mod state;
 
 pub use client::Client;
+pub use laws::always_told;
+pub use laws::used_once;

@@ -89,14 +89,14 @@ impl State {
         }
     }
 
-    // A client that is up crashes first.
+    // A restart without a crash before it is a crash that nobody announced.
     fn restart(self, ticks: u64) -> Result<Turn, Fault>
         ensures { λ r. ⌜ mapOk turnOf r ≡ restarts ticks (stateOf self) ⌝ }
     {
         let clock = Clock::at(ticks)?;
         Ok(Turn {
             state: self.forgetting(clock, true),
-            stopped: self.crash().stopped,
+            stopped: self.holding.in_use().is_some(),
             taken: None,
         })
     }
