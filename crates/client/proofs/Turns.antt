@@ -55,11 +55,11 @@ stops-told None = refl
 stops-told (Some u) = refl
 
 -- an address is over or stays
-gone : (now : ℕ) (o : Option Use) → over now (mapped until o) ≡ true → stillUsed now o ≡ None
+pub gone : (now : ℕ) (o : Option Use) → over now (mapped until o) ≡ true → stillUsed now o ≡ None
 gone now None e = refl
 gone now (Some u) e = cond-false (leb now (u .until)) (Some u) None (lt-leb now (u .until) (ltb-true (u .until) now e))
 
-stays : (now : ℕ) (o : Option Use) → over now (mapped until o) ≡ false → stillUsed now o ≡ o
+pub stays : (now : ℕ) (o : Option Use) → over now (mapped until o) ≡ false → stillUsed now o ≡ o
 stays now None e = refl
 stays now (Some u) e = cond-true (leb now (u .until)) (Some u) None (le-leb now (u .until) (ltb-false (u .until) now e))
 

@@ -111,6 +111,10 @@ answers c (Err f) = refuses f c
 abbrev pub size : model.Settings → ℕ
 size k = k .addresses
 
--- what the client makes of a message's bytes
+-- what these bytes say to the client
+abbrev pub understood : List ℕ → Client → Answer
+understood bs c = decoded reader.Client (mapped size (c .state .settings)) bs
+
+-- what it makes of them
 unfoldable pub hears : List ℕ → Client → Step
-hears bs c = answers c (decoded reader.Client (mapped size (c .state .settings)) bs)
+hears bs c = answers c (understood bs c)

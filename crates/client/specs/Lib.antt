@@ -6,3 +6,4 @@ pub mod Telling
 pub mod Nonces
 pub mod Refines
 pub mod Laws
+pub mod Pacing
