@@ -4,14 +4,18 @@ ghost use mathlib.Core.List.{[], _++_};
 ghost use mathlib.Core.Logic.{_⊎_};
 ghost use Prim.Native.Nat.{_+_, _<_, _≤_};
 ghost use Rattle.std.specs.Of.Vec.{vec-items, vec-len, vec-cap};
+ghost use Rattle.std.specs.Options.{mapped};
 ghost use Rattle.std.specs.Results.{isOk};
+ghost use Rattle.lease.specs.Of.{useOf};
 ghost use Rattle.client.specs.Of.{stateOf, turnOf, stepOf, clientOf};
-ghost use Rattle.client.specs.State.{does};
+ghost use Rattle.client.specs.State.{inUse, does};
 ghost use Rattle.client.specs.Laws.{Laws};
 ghost use Rattle.client.specs.Client.{fresh, queued, goesOn, hears, lends, lent};
 use crate::asking::Step;
 use crate::state::State;
 use crate::state::Turn;
+use lease::Clock;
+use lease::Use;
 use std::alloc::AllocError;
 use std::alloc::Global;
 use wire::Message;
@@ -65,6 +69,32 @@ impl Client {
             state: State::new(),
             nonces: Vec::new(heap),
         }
+    }
+
+    // Its own number, once it knows it.
+    pub fn own(&self) -> Option<u32>
+        ensures { λ r. ⌜ r ≡ clientOf (now (self .entry)) .state .own ⌝ }
+    {
+        self.state.own
+    }
+
+    pub fn is_up(&self) -> bool
+        ensures { λ r. ⌜ r ≡ clientOf (now (self .entry)) .state .holder .up ⌝ }
+    {
+        self.state.up
+    }
+
+    pub fn clock(&self) -> Clock
+        ensures { λ r. ⌜ r .ticks ≡ clientOf (now (self .entry)) .state .holder .clock ⌝ }
+    {
+        self.state.clock
+    }
+
+    // The address in use.
+    pub fn in_use(&self) -> Option<Use>
+        ensures { λ r. ⌜ mapped useOf r ≡ inUse (clientOf (now (self .entry)) .state) ⌝ }
+    {
+        self.state.holding.in_use()
     }
 
     // A nonce is put behind the others.
