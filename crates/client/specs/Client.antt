@@ -17,7 +17,7 @@ use Rattle.wire.specs.declared.message.Message.the-variants.{Request, Grant, Se
 use Rattle.wire.specs.declared.reader.Reader.the-variants as reader
 use Rattle.wire.specs.Decode.{Answer, decoded}
 use Rattle.wire.specs.Read.{read}
-use Rattle.client.specs.State.{State, Turn, new, inUse, until, does}
+use Rattle.client.specs.State.{State, Turn, started, inUse, until, does}
 
 -- nonces: lent to it and not yet used, the oldest first
 pub record Client : Type 0 where
@@ -28,8 +28,9 @@ pub record Step : Type 0 where
   pub client : Client
   pub says : List Message
 
+-- a new client: its clock is at 0
 abbrev pub fresh : Client
-fresh = record { state = new; nonces = [] }
+fresh = record { state = started 0; nonces = [] }
 
 -- the address that it had last, or none
 abbrev pub preferred : model.Settings → Option ℕ → ℕ

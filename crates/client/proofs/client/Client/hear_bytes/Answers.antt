@@ -35,12 +35,12 @@ pub returns-in-Err : need.returns-in-Err
 unfolding hears
 returns-in-Err c =
     let bs : List ℕ = c .args .bytes .now in
-    let e : decoded reader.Client (mapped size (clientOf (c .args .self .now) .state .settings)) bs ≡ Err (c .in-Err .fault) =
+    let e : decoded reader.Client (mapped size (clientOf (c .args .self .now) .state .settings)) bs ≡ Err (c .in-Err .malformed) =
     ap (λ (p : Option ℕ). decoded reader.Client p bs) (sym (pool-size (c .args .self .now .state .settings))) ∙ sym (c .decode .ensures .value) ∙ c .in-Err .is
     in
     record {
       client = sym (ap (λ (a : Answer). answers (clientOf (c .args .self .now)) a .client) e);
-      out = c .push-reserved .ensures .items ∙ ap (λ (l : List Message). l ++ (Fault (c .in-Err .fault) ∷ [])) (c .reserve .ensures .items)
+      out = c .push-reserved .ensures .items ∙ ap (λ (l : List Message). l ++ (Fault (c .in-Err .malformed) ∷ [])) (c .reserve .ensures .items)
           ∙ sym (ap (λ (a : Answer). vec-items (c .args .out .now) ++ answers (clientOf (c .args .self .now)) a .says) e);
       succeeds = λ room nonce. refl;
     }
