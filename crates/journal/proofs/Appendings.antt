@@ -8,7 +8,6 @@ use lib.ListN.{length, set, length-append}
 use Rattle.std.proofs.shelf.Tests.{lt-leb}
 use Rattle.std.specs.Of.Vec.{vec-items}
 use Rattle.std.specs.shelf.Lists.{All}
-use Rattle.std.specs.Results.{Cases}
 use Rattle.std.specs.Vec.{made}
 use Rattle.std.specs.declared.option.Option.{Option}
 use Rattle.std.specs.declared.option.Option.the-variants.{Some}
@@ -27,9 +26,9 @@ use Rattle.journal.specs.Table.{Table, keeping, set as set-in}
 use Rattle.journal.specs.Device.{Side, other, Device, Choice, chosen, isFound, Cursor}
 use Rattle.journal.specs.Append.{Plan, inRow, inOther, exhausted, Write, numbered, writes, after, put, perform}
 use Rattle.journal.specs.Image.{index, stored, choiceFrom, deviceOf, tableIn}
-use Rattle.journal.specs.Memory.{cursorOf, choiceOf, placesOf, nextRecord, went, copiedTo, Legible, Copied, Appended, AppendRefused}
+use Rattle.journal.specs.Memory.{cursorOf, choiceOf, placesOf, nextRecord, went, copiedTo, Legible, Copied, Appended, Tried, AppendRefused}
 use Rattle.journal.specs.Laws.{Ready}
-use Rattle.journal.specs.Promise.{planned, Stands, Outlives}
+use Rattle.journal.specs.Promise.{planned, Gives, Stands, Outlives}
 use Rattle.journal.specs.Durable.{CutFile}
 use Rattle.journal.proofs.Durables.{cut-file}
 use Rattle.journal.proofs.Appends.{append-stands, append-survives}
@@ -100,13 +99,13 @@ stood clock xs before end x w room a then on r =
 
 -- the answer of either way, as the plan has it
 pub record Answered (clock : ℕ) (xs : List (Option Lease)) (before end : Journal) (x : Lease) (r : Result Written Fault) : Type 0 where
-  pub value : Cases r (λ w. Appended before end (planned before clock xs) x w) (λ f. AppendRefused f (length xs) (planned before clock xs) × (end ≡ before))
+  pub value : Gives clock xs before end x r
   pub stands : made r (λ _. Stands clock xs before end x)
   pub outlives : Outlives clock xs before x
   pub file : made r (λ w. CutFile before end (planned before clock xs) x w)
 
 pub answered : (clock : ℕ) (xs : List (Option Lease)) (before end : Journal) (x : Lease) (r : Result Written Fault) (p : Plan) → length xs < 4096 → planned before clock xs ≡ p →
-    Cases r (λ w. Appended before end p x w) (λ f. (f ≡ CountExhausted) × (exhausted p ≡ true) × (end ≡ before)) → Answered clock xs before end x r
+    Tried before end p x r → Answered clock xs before end x r
 answered clock xs before end x (Ok w) p room e h =
     let a : Appended before end (planned before clock xs) x w = subst (λ (q : Plan). Appended before end q x w) (sym e) h in
     record { value = a; stands = stood clock xs before end x w room a; outlives = outlived clock xs before x; file = cut-file before end (planned before clock xs) x w a }

@@ -86,8 +86,8 @@ pub record Recovered (d : Device) (rows : List RowState) (active highest : ℕ) 
   pub choice : choiceFrom f active ≡ chosen 4096 d
   pub cursor : cursorFrom rows active highest ≡ cursor 4096 d
 
--- bytes, cut into places
-pub record Cut (bytes : List ℕ) (places : List (List ℕ)) : Type 0 where
+-- bytes, divided into places
+pub record Divided (bytes : List ℕ) (places : List (List ℕ)) : Type 0 where
   pub all : length places ≡ 8192
   pub each : (k : ℕ) → k < 8192 → getD places k [] ≡ between (k * 28) (k * 28 + 28) bytes
 

@@ -5,7 +5,11 @@ use mathlib.Core.Bool.{true}
 use mathlib.Core.List.{List}
 use Prim.Native.Nat.{ℕ, _<_, _≤_}
 use lib.ListN.{length}
+use Rattle.std.specs.Results.{Cases}
 use Rattle.std.specs.declared.option.Option.{Option}
+use Rattle.std.specs.declared.result.Result.{Result}
+use Rattle.lease.specs.declared.fault.Fault.{Fault}
+use Rattle.journal.specs.declared.state.Written.{Written}
 use Rattle.lease.specs.declared.lease.Lease.{Lease}
 use Rattle.journal.specs.declared.journal.Journal.{Journal}
 use Rattle.journal.specs.Table.{set}
@@ -14,11 +18,15 @@ use Rattle.journal.specs.Append.{Plan, plan, writes}
 use Rattle.journal.specs.Crash.{Cut, cutAt, lands}
 use Rattle.journal.specs.Laws.{Ready, Sound, Survives}
 use Rattle.journal.specs.Image.{tableIn}
-use Rattle.journal.specs.Memory.{cursorOf, placesOf}
+use Rattle.journal.specs.Memory.{AppendRefused, Appended, cursorOf, placesOf}
 
 -- what an append of a server with this clock and table writes
 abbrev pub planned : Journal → (clock : ℕ) → List (Option Lease) → Plan
 planned j clock xs = plan 4096 (length xs) clock (cursorOf j) (tableIn xs)
+
+-- the lease is written by that plan, or it is said why not and nothing changed
+abbrev pub Gives : (clock : ℕ) → List (Option Lease) → (before after : Journal) → Lease → Result Written Fault → Type 0
+Gives clock xs j k x r = Cases r (λ w. Appended j k (planned j clock xs) x w) (λ f. AppendRefused f (length xs) (planned j clock xs) × (k ≡ j))
 
 -- recovery gives the table with the lease, and goes on where the journal does
 abbrev pub Stands : (clock : ℕ) → List (Option Lease) → (before after : Journal) → Lease → Type 0

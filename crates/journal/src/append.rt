@@ -10,14 +10,13 @@ ghost use denote.Ref.{name};
 ghost use Rattle.std.specs.Changed.{with-item};
 ghost use Rattle.std.specs.Of.Vec.{vec-items};
 ghost use Rattle.std.specs.Options.{isSome};
-ghost use Rattle.std.specs.Results.{Cases};
 ghost use Rattle.std.specs.Vec.{made};
 ghost use Rattle.journal.specs.contracts.journal.Journal.{the-row};
 ghost use Rattle.journal.specs.Append.{inOther, inRow};
 ghost use Rattle.journal.specs.Durable.{CutFile};
 ghost use Rattle.journal.specs.Image.{tableIn, unread};
-ghost use Rattle.journal.specs.Memory.{AppendRefused, Appended, Copied, Room, Tried, Wrote, WroteSome, cursorOf, placesOf, turnedTo};
-ghost use Rattle.journal.specs.Promise.{Outlives, Stands, planned};
+ghost use Rattle.journal.specs.Memory.{Copied, Room, Tried, Wrote, WroteSome, cursorOf, placesOf, turnedTo};
+ghost use Rattle.journal.specs.Promise.{Gives, Outlives, Stands, planned};
 ghost use Rattle.journal.specs.Table.{keeping, keptOf};
 use crate::journal::Journal;
 use crate::record::Record;
@@ -146,7 +145,7 @@ impl Journal {
         table: &[Option<Lease>],
         lease: Lease,
     ) -> Result<Written, Fault>
-        ensures value { λ r. ⌜ Cases r (λ w. Appended (now (self .entry)) (now (self .exit)) (planned (now (self .entry)) clock (now (table .entry))) lease w) (λ f. AppendRefused f (length (now (table .entry))) (planned (now (self .entry)) clock (now (table .entry))) × (now (self .exit) ≡ now (self .entry))) ⌝ }
+        ensures value { λ r. ⌜ Gives clock (now (table .entry)) (now (self .entry)) (now (self .exit)) lease r ⌝ }
         ensures stands { λ r. ⌜ made r (λ _. Stands clock (now (table .entry)) (now (self .entry)) (now (self .exit)) lease) ⌝ }
         ensures file { λ r. ⌜ made r (λ w. CutFile (now (self .entry)) (now (self .exit)) (planned (now (self .entry)) clock (now (table .entry))) lease w) ⌝ }
         ensures outlives { λ _. ⌜ Outlives clock (now (table .entry)) (now (self .entry)) lease ⌝ }

@@ -12,7 +12,7 @@ ghost use Rattle.std.specs.Results.{Cases};
 ghost use Rattle.std.specs.Vec.{made};
 ghost use Rattle.journal.specs.declared.state.Found.the-variants.{New, Lost};
 ghost use Rattle.journal.specs.Device.{Device, Row0, Row1, leases, newerOf};
-ghost use Rattle.journal.specs.Image.{Cut, Knows, OpenRefused, Recovered, countOf, deviceOf, sideOf, tableIn, unread};
+ghost use Rattle.journal.specs.Image.{Divided, Knows, OpenRefused, Recovered, countOf, deviceOf, sideOf, tableIn, unread};
 ghost use Rattle.journal.specs.Promise.{Rereads};
 ghost use Rattle.journal.specs.Bytes.{placeFrom, placeOf};
 ghost use Rattle.journal.specs.Row.{putIn, tableOf};
@@ -137,7 +137,7 @@ fn read(device: &[[u8; 28]]) -> Reading
 
 fn load(device: &mut Vec<[u8; 28]>, bytes: &[u8])
     requires { ⌜ vec-len (now device) ≡ 0 ⌝ ∗ ⌜ 8192 ≤ vec-cap (now device) ⌝ ∗ ⌜ length (now bytes) ≡ 229376 ⌝ }
-    ensures { λ _. ⌜ Cut (now (bytes .entry)) (vec-items (now (device .exit))) ⌝ }
+    ensures { λ _. ⌜ Divided (now (bytes .entry)) (vec-items (now (device .exit))) ⌝ }
 {
     for i in 0..PLACES {
         let mut place = [0u8; 28];
@@ -189,7 +189,7 @@ pub fn device_places() -> usize
 impl Journal {
     // A device's bytes, read into room for its places. Nothing is allocated here or later.
     pub fn open(room: Vec<[u8; 28]>, bytes: &[u8]) -> Result<Journal, OpenError>
-        ensures { λ r. ⌜ Cases r (λ j. Cut (now (bytes .entry)) (vec-items (j .device)) × Recovered (deviceOf (vec-items (j .device))) (j .rows) (j .active) (j .highest) (j .found)) (λ e. OpenRefused e (length (now (bytes .entry))) (vec-cap room)) ⌝ }
+        ensures { λ r. ⌜ Cases r (λ j. Divided (now (bytes .entry)) (vec-items (j .device)) × Recovered (deviceOf (vec-items (j .device))) (j .rows) (j .active) (j .highest) (j .found)) (λ e. OpenRefused e (length (now (bytes .entry))) (vec-cap room)) ⌝ }
     {
         if bytes.len() != DEVICE {
             return Err(OpenError::WrongLength);
