@@ -1,12 +1,12 @@
 -- Which events a step is not, by what the client puts out.
 -- Assumes nothing.
 use mathlib.Core.Path.{_≡_, refl, sym, ap, subst, _∙_}
-use mathlib.Core.Bool.{Bool, true, false, cond, _&&_, _||_}
+use mathlib.Core.Bool.{Bool, true, false, _&&_}
 use mathlib.Core.Logic.{_⊎_, inl, inr, ⊎-elim}
 use mathlib.Core.List.{List, [], _∷_, _++_}
 use Prim.Native.Nat.{ℕ, _+_, _^_, _≤_}
 use native.Mathlib.Omega.{arith}
-use lib.Dec.{eqb, leb, ltb}
+use lib.Dec.{leb, ltb}
 use Rattle.std.specs.declared.option.Option.{Option}
 use Rattle.std.specs.declared.option.Option.the-variants.{Some, None}
 use Rattle.std.specs.declared.result.Result.{Result}
@@ -31,12 +31,11 @@ use Rattle.wire.specs.declared.message.Message.{Message}
 use Rattle.wire.specs.declared.message.Message.the-variants.{Request, Grant, Settings, Tick, Crash, Restart, OwnNumber, Nonce, InUse, NoAddress, Fault}
 use Rattle.wire.specs.Decode.{Answer}
 use Rattle.client.specs.State as state
-use Rattle.client.specs.State.{State, Turn, inUse, until, stops, crashes, leaves, passes, ticks, restarts, learns, named, askedAt, heldBy, grants, does}
+use Rattle.client.specs.State.{State, Turn, inUse, until, stops, crashes, leaves, ticks, restarts, learns, named, askedAt, heldBy, grants, does}
 use Rattle.client.specs.Client as whole
-use Rattle.client.specs.Client.{Client, Step, ready, asksBy, queued, goesOn, answers, understood, hears}
-use Rattle.client.specs.Nonces.{requests}
-use Rattle.client.specs.Pacing.{some, uses, usesNone, any, isTick, isStart}
-use Rattle.client.proofs.Scheduling.{Tied, termOf, view, happened}
+use Rattle.client.specs.Client.{Client, Step, ready, asksBy, queued, goesOn, answers}
+use Rattle.client.specs.Pacing.{uses, usesNone, any, isTick, isStart}
+use Rattle.client.proofs.Scheduling.{Tied, termOf, happened}
 use Rattle.client.proofs.Tracing.{requesting, heardBy, firstBy}
 
 -- messages put out one after the other

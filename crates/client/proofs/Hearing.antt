@@ -1,14 +1,14 @@
 -- From the code's way of hearing a message to the model's.
 -- Assumes nothing.
 use mathlib.Core.Path.{_≡_, refl, sym, ap, _∙_}
-use mathlib.Core.List.{List, [], _∷_, _++_}
+use mathlib.Core.List.{List, [], _++_}
 use Prim.Native.Nat.{ℕ}
 use Rattle.std.specs.declared.option.Option.{Option}
 use Rattle.std.specs.declared.option.Option.the-variants.{Some, None}
 use Rattle.std.specs.declared.result.Result.{Result}
-use Rattle.std.specs.declared.result.Result.the-variants.{Ok, Err}
+use Rattle.std.specs.declared.result.Result.the-variants.{Ok}
 use Rattle.std.specs.Options.{mapped}
-use Rattle.std.proofs.shelf.Lists.{append-nil, append-assoc}
+use Rattle.std.proofs.shelf.Lists.{append-nil}
 use Rattle.lease.specs.declared.fault.Fault as lease
 use Rattle.lease.specs.declared.settings.Settings as declared
 use Rattle.lease.specs.Of.{settingsOf}
@@ -17,7 +17,7 @@ use Rattle.wire.specs.declared.message.Message.the-variants.{Request, Grant, Se
 use Rattle.wire.specs.declared.reader.Reader.the-variants as reader
 use Rattle.wire.specs.Decode.{decoded, pool}
 use Rattle.client.specs.State.{State, Turn, does}
-use Rattle.client.specs.Client.{Client, Step, queued, goesOn, answers, size, hears}
+use Rattle.client.specs.Client.{Client, queued, goesOn, answers, size, hears}
 
 -- the pool that the code hands on
 pub pool-size : (o : Option declared.Settings) → pool o ≡ mapped size (mapped settingsOf o)

@@ -1,9 +1,9 @@
 -- What holds of a client at every moment of a run: its term is a minute at least, and a request that is due and can be sent was sent.
 -- Assumes nothing.
-use mathlib.Core.Path.{_≡_, refl, sym, ap, subst, _∙_}
-use mathlib.Core.Bool.{Bool, true, false, cond, _&&_}
-use mathlib.Core.Logic.{_⊎_, inl, inr, ⊎-elim}
-use mathlib.Core.List.{List, [], _∷_, _++_}
+use mathlib.Core.Path.{_≡_, refl, ap}
+use mathlib.Core.Bool.{Bool, true, false, _&&_}
+use mathlib.Core.Logic.{_⊎_, ⊎-elim}
+use mathlib.Core.List.{List, [], _∷_}
 use Prim.Native.Nat.{ℕ, _+_, _-_, _*_, _^_, _<_, _≤_}
 use native.Mathlib.Omega.{arith}
 use lib.Dec.{leb, ltb}
@@ -28,7 +28,7 @@ use Rattle.wire.specs.declared.message.Message.{Message}
 use Rattle.wire.specs.declared.message.Message.the-variants.{Request, Grant, Settings, Tick, Crash, Restart, OwnNumber, Nonce, InUse, NoAddress, Fault}
 use Rattle.wire.specs.Decode.{Answer}
 use Rattle.client.specs.State as state
-use Rattle.client.specs.State.{State, Turn, inUse, until, passes, crashes, ticks, restarts, learns, named, heldBy, grants, does}
+use Rattle.client.specs.State.{State, Turn, inUse, until, ticks, named, heldBy, does}
 use Rattle.client.specs.Client.{Client, Step, keeps, sends, ready, asksBy, queued, goesOn, answers, understood, hears}
 use Rattle.client.specs.Pacing.{some, equipped}
 use Rattle.client.specs.Run.{Run, client}

@@ -24,7 +24,7 @@ use Rattle.client.specs.Client.{Client, understood, hears}
 use Rattle.client.specs.Nonces.{requests}
 use Rattle.client.specs.Pacing.{clock, some, asks, takes, loses, starts, equipped, Never, Always, FourApart, SixtyApart, PausesEnd, AsksBy, StillUses, AsksInTime}
 use Rattle.client.specs.Run.{Run, client}
-use Rattle.client.proofs.Scheduling.{Tied, view}
+use Rattle.client.proofs.Scheduling.{view}
 use Rattle.client.proofs.Tracing.{requesting, first, events, stepped, trace, stretch, trace-++, tied, lawful}
 use Rattle.client.proofs.Events.{after-request, never-starts, never-asks, never-tarries, never-loses, never-takes, is-taken}
 use Rattle.client.proofs.Moments.{long, prompt, has-all}

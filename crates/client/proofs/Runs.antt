@@ -1,7 +1,7 @@
 -- What holds of each step, over whole runs.
 -- Assumes nothing.
 use mathlib.Core.Path.{_≡_, refl, sym, ap, subst, _∙_}
-use mathlib.Core.Bool.{Bool, true, false, _||_}
+use mathlib.Core.Bool.{false}
 use mathlib.Core.List.{List, [], _∷_, _++_}
 use Prim.Native.Nat.{ℕ}
 use lib.Dec.{eqb}
@@ -12,10 +12,8 @@ use Rattle.std.proofs.shelf.Lists.{append-assoc}
 use Rattle.lease.specs.declared.message.Request as lent
 use Rattle.lease.specs.Holding.{Use}
 use Rattle.lease.specs.World.{elem}
-use Rattle.wire.specs.declared.message.Message.{Message}
-use Rattle.client.specs.State.{inUse}
 use Rattle.client.specs.Client.{Step, lent, hears}
-use Rattle.client.specs.Run.{Run, client, said}
+use Rattle.client.specs.Run.{client, said}
 use Rattle.client.specs.Telling.{told, Told}
 use Rattle.client.specs.Nonces.{requests, nonces, came, InOrder, Distinct, UsedOnce}
 use Rattle.client.proofs.Steps.{told-++, requests-++, laws}

@@ -1,7 +1,7 @@
 -- Each step of a client is a list of a schedule's events, on its clock, its use, its request that waits and its schedule.
 -- Assumes nothing. Lists of events begin with the newest.
 use mathlib.Core.Path.{_≡_, refl, sym, ap, subst, _∙_}
-use mathlib.Core.Bool.{Bool, true, false, cond, _&&_}
+use mathlib.Core.Bool.{true, false, cond}
 use mathlib.Core.List.{List, [], _∷_, _++_}
 use Prim.Native.Nat.{ℕ, _+_, _^_, _≤_}
 use native.Mathlib.Omega.{arith}
@@ -12,23 +12,22 @@ use Rattle.std.specs.declared.result.Result.{Result}
 use Rattle.std.specs.declared.result.Result.the-variants.{Ok, Err}
 use Rattle.std.specs.Options.{mapped}
 use Rattle.std.specs.Vec.{made}
-use Rattle.std.proofs.shelf.Tests.{cond-both, cond-true, cond-false, both-ways, and-parts}
+use Rattle.std.proofs.shelf.Tests.{cond-both, cond-true, cond-false, both-ways}
 use Rattle.lease.specs.declared.fault.Fault as lease
 use Rattle.lease.specs.declared.message.Grant as lent
 use Rattle.lease.specs.Settings as model
 use Rattle.lease.specs.Settings.{valid}
-use Rattle.lease.specs.Holding.{Use, Wait, stillUsed, later, taken}
+use Rattle.lease.specs.Holding.{Use, Wait, stillUsed, later}
 use Rattle.lease.specs.World as world
-use Rattle.lease.specs.Run.{clientPasses, withHolding, hearing}
+use Rattle.lease.specs.Run.{clientPasses, hearing}
 use Rattle.retry.specs.declared.schedule.Schedule.{Schedule}
-use Rattle.retry.specs.Schedule.{starting, renewing, isDue}
+use Rattle.retry.specs.Schedule.{starting, renewing}
 use Rattle.retry.specs.Run as retry
-use Rattle.retry.specs.Run.{Event, Starts, Ticks, Asks, Takes, over, ticked, granted, Lawful}
-use Rattle.retry.specs.Run.{sends as asking}
+use Rattle.retry.specs.Run.{Event, Starts, Ticks, Takes, over, ticked, granted, Lawful}
 use Rattle.wire.specs.declared.message.Message.{Message}
 use Rattle.wire.specs.declared.message.Message.the-variants.{Request, Grant, Settings, Tick, Crash, Restart, OwnNumber, Nonce, InUse, NoAddress, Fault}
 use Rattle.client.specs.State as state
-use Rattle.client.specs.State.{State, Turn, silently, inUse, until, forgets, crashes, restarts, passes, ticks, learns, named, askedAt, heldBy, grants, does}
+use Rattle.client.specs.State.{State, Turn, inUse, until, crashes, restarts, passes, ticks, learns, named, askedAt, heldBy, grants, does}
 use Rattle.client.proofs.Taking.{Took, took}
 use Rattle.client.proofs.Turns.{gone, stays}
 

@@ -1,7 +1,7 @@
 -- A single step of a client: what it tells, which nonce it uses, and what it does in the model.
 -- Assumes nothing.
 use mathlib.Core.Path.{_≡_, refl, sym, ap, _∙_}
-use mathlib.Core.Bool.{Bool, true, false, cond, _&&_}
+use mathlib.Core.Bool.{true}
 use mathlib.Core.List.{List, [], _∷_, _++_}
 use Prim.Native.Nat.{ℕ}
 use lib.Dec.{ltb}
@@ -28,7 +28,7 @@ use Rattle.wire.specs.declared.reader.Reader.the-variants as reader
 use Rattle.wire.specs.Decode.{Answer, judged, answered, decoded}
 use Rattle.wire.specs.Read.{read}
 use Rattle.client.specs.State.{State, Turn, inUse, does}
-use Rattle.client.specs.Client.{Client, Step, preferred, keeps, sends, ready, asksBy, asks, lends, lentBy, lent, queued, refuses, goesOn, answers, size, hears}
+use Rattle.client.specs.Client.{Client, Step, preferred, keeps, sends, ready, asksBy, lends, lentBy, lent, queued, refuses, goesOn, answers, size, hears}
 use Rattle.client.specs.Telling.{told}
 use Rattle.client.specs.Nonces.{requests, nonces}
 use Rattle.client.specs.Refines.{Act, Passes, Asks, Hears, Crashes, Starts, act, acts, Fits, Fit, sent, Refines}

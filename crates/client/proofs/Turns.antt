@@ -1,18 +1,17 @@
 -- What each message leaves of a client before it asks: it is quiet, tells its user, and does what the model's client does.
 -- Assumes nothing.
 use mathlib.Core.Path.{_≡_, refl, sym, ap, _∙_}
-use mathlib.Core.Bool.{Bool, true, false, cond}
+use mathlib.Core.Bool.{true, false}
 use mathlib.Core.List.{List, [], _∷_, _++_}
 use Prim.Native.Nat.{ℕ, _+_, _^_}
-use native.Mathlib.Omega.{arith}
-use lib.Dec.{eqb, leb, ltb}
+use lib.Dec.{eqb, leb}
 use Rattle.std.specs.declared.option.Option.{Option}
 use Rattle.std.specs.declared.option.Option.the-variants.{Some, None}
 use Rattle.std.specs.declared.result.Result.{Result}
 use Rattle.std.specs.declared.result.Result.the-variants.{Ok, Err}
 use Rattle.std.specs.Options.{mapped}
 use Rattle.std.specs.Vec.{made}
-use Rattle.std.proofs.shelf.Tests.{cond-both, cond-true, cond-false, both-ways, ltb-true, ltb-false, lt-leb, le-leb}
+use Rattle.std.proofs.shelf.Tests.{cond-both, cond-true, cond-false, ltb-true, ltb-false, lt-leb, le-leb}
 use Rattle.lease.specs.declared.fault.Fault as lease
 use Rattle.lease.specs.declared.message.Grant as lent
 use Rattle.lease.specs.Settings as model
@@ -23,7 +22,7 @@ use Rattle.lease.specs.Run.{clientPasses, hearing}
 use Rattle.retry.specs.Run.{over}
 use Rattle.wire.specs.declared.message.Message.{Message}
 use Rattle.wire.specs.declared.message.Message.the-variants.{Request, Grant, Settings, Tick, Crash, Restart, OwnNumber, Nonce, InUse, NoAddress, Fault}
-use Rattle.client.specs.State.{State, Turn, silently, inUse, until, stops, crashes, restarts, passes, ticks, learns, named, leaves, askedAt, takes, heldBy, granted, grants, does}
+use Rattle.client.specs.State.{State, Turn, silently, inUse, until, stops, crashes, restarts, passes, ticks, learns, named, leaves, askedAt, heldBy, granted, grants, does}
 use Rattle.client.specs.Telling.{told}
 use Rattle.client.specs.Nonces.{requests}
 use Rattle.client.specs.Refines.{Act, Passes, Hears, Crashes, Starts, acts, Fit, sent}

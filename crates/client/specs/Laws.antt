@@ -4,7 +4,7 @@ use mathlib.Core.Path.{_≡_}
 use mathlib.Core.List.{List, _++_}
 use Prim.Native.Nat.{ℕ}
 use Rattle.client.specs.State.{inUse}
-use Rattle.client.specs.Client.{Client, Step, lent, hears}
+use Rattle.client.specs.Client.{Client, lent, hears}
 use Rattle.client.specs.Telling.{told}
 use Rattle.client.specs.Nonces.{requests, nonces}
 use Rattle.client.specs.Refines.{Refines}

@@ -6,14 +6,11 @@ use Prim.Native.Nat.{ℕ}
 use lib.ListN.{drop}
 use Rattle.std.specs.declared.option.Option.{Option}
 use Rattle.std.specs.declared.option.Option.the-variants.{Some, None}
-use Rattle.std.specs.declared.result.Result.{Result}
-use Rattle.std.specs.declared.result.Result.the-variants.{Ok, Err}
 use Rattle.std.specs.Options.{mapped}
 use Rattle.std.specs.Of.Vec.{vec-items}
-use Rattle.lease.specs.declared.fault.Fault as lease
 use Rattle.lease.specs.declared.message.Request as lent
 use Rattle.lease.specs.declared.holding.Use.{Use}
-use Rattle.lease.specs.Of.{settingsOf, holdingOf, mapOk}
+use Rattle.lease.specs.Of.{settingsOf, holdingOf}
 use Rattle.wire.specs.declared.message.Message.{Message}
 use Rattle.wire.specs.declared.message.Message.the-variants.{Request, InUse, NoAddress}
 use Rattle.client.specs.declared.state.State.{State}

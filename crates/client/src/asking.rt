@@ -1,6 +1,6 @@
 ghost use mathlib.Core.Path.{_≡_};
 ghost use Rattle.std.specs.Options.{mapped};
-ghost use Rattle.lease.specs.Of.{settingsOf, mapOk};
+ghost use Rattle.lease.specs.Of.{settingsOf};
 ghost use Rattle.client.specs.Of.{stateOf, turnOf, stepOf};
 ghost use Rattle.client.specs.State.{until};
 ghost use Rattle.client.specs.Client.{asks, preferred as prefers, requests};

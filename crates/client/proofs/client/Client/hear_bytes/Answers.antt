@@ -2,14 +2,13 @@ use mathlib.Core.Path.{_≡_, refl, sym, ap, _∙_}
 use mathlib.Core.List.{List, [], _∷_, _++_}
 use Prim.Native.Nat.{ℕ}
 use Rattle.std.specs.declared.option.Option.{Option}
-use Rattle.std.specs.declared.result.Result.the-variants.{Ok, Err}
+use Rattle.std.specs.declared.result.Result.the-variants.{Err}
 use Rattle.std.specs.Of.Vec.{vec-items}
 use Rattle.std.specs.Options.{mapped}
 use Rattle.wire.specs.declared.message.Message.{Message}
 use Rattle.wire.specs.declared.message.Message.the-variants.{Fault}
 use Rattle.wire.specs.declared.reader.Reader.the-variants as reader
 use Rattle.wire.specs.Decode.{Answer, decoded}
-use Rattle.client.specs.declared.state.State.{State}
 use Rattle.client.specs.Of.{stateOf, clientOf}
 use Rattle.client.specs.State.{does}
 use Rattle.client.specs.Client.{Client, Step, goesOn, answers, size, hears}
