@@ -1,0 +1,17 @@
+pub mod Reading
+pub mod Tables
+pub mod Choosing
+pub mod Progress
+pub mod Appends
+pub mod Runs
+pub mod Numbers
+pub mod Cases
+pub mod Codes
+pub mod Scans
+pub mod Readings
+pub mod Restores
+pub mod Memories
+pub mod Stores
+pub mod Copies
+pub mod Appendings
+pub mod Durables

@@ -1,0 +1,14 @@
+pub mod Place
+pub mod Bytes
+pub mod Table
+pub mod Row
+pub mod Device
+pub mod Append
+pub mod Image
+pub mod Memory
+pub mod Crash
+pub mod Run
+pub mod Laws
+pub mod Promise
+pub mod Durable
+pub mod Witness
