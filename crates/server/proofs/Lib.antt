@@ -1,0 +1,4 @@
+pub mod States
+pub mod Readings
+pub mod Hearing
+pub mod Exact

@@ -1,0 +1,5 @@
+pub mod Reply
+pub mod Server
+pub mod Of
+pub mod Steps
+pub mod Refines
