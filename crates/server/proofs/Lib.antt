@@ -2,3 +2,5 @@ pub mod States
 pub mod Readings
 pub mod Hearing
 pub mod Exact
+pub mod Answering
+pub mod Refining
