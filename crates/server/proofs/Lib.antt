@@ -4,3 +4,5 @@ pub mod Hearing
 pub mod Exact
 pub mod Answering
 pub mod Refining
+pub mod Ordering
+pub mod Following

@@ -40,7 +40,7 @@ use Rattle.journal.proofs.Appends.{append-stands}
 use Rattle.journal.proofs.Runs.{filed-at, none-at}
 use Rattle.server.specs.declared.effect.Effect.{Effect}
 use Rattle.server.specs.Server.{State, Step, answers, appends, comesBack, does, grants, hears, isLost, learns, leaseOf, planned, pooled, reads, refuses, replies, requested, rereads, restarted, settles, silently, tells, ticks, understood, withServer}
-use Rattle.server.specs.Refines.{CutRefines, Embeds, Event, Crashes, Forgets, Hears, HearsAndCrashes, Passes, Restarts, EventsOfRuns, Refines, SettlingStands, Stands, StepRefines, downWith, grantBy, grantsIn, modelOf, occur, occurs, sent}
+use Rattle.server.specs.Refines.{CutRefines, Embeds, Event, Crashes, Forgets, Hears, HearsAndCrashes, Passes, Restarts, Cause, Asking, Other, Time, EventsOfRuns, Refines, SettlingStands, Stands, StepRefines, downWith, grantBy, grantsIn, modelOf, occur, occurs, causeIn, sent}
 use Rattle.server.proofs.Answering.{answer-same, serverAt}
 use Rattle.server.proofs.Exact.{Exactly, keptIn, leaves, sound-left, whole-cut, with?}
 
@@ -101,8 +101,8 @@ module _ (k : model.Settings) (s : State) (few : k .addresses < 4096) (sound : S
   abbrev has : world.Server → State
   has y = record { settings = Some k; server = y; device = d; cursor = cursor 4096 d }
 
-  pub read-refines : Refines k s (reads k clock s .state) (grantsIn (reads k clock s .effects))
-  read-refines =
+  pub read-refines : (o : Cause) → Refines k s (reads k clock s .state) (grantsIn (reads k clock s .effects)) o
+  read-refines o =
       let b : Bool = isLost (chosen 4096 d) || isSilent (s .server .silent) in
       let none : b ≡ true → isFound (chosen 4096 d) ≡ false =
       λ e. elim (or-cases (isLost (chosen 4096 d)) (isSilent (s .server .silent)) e) [ inl h ↦ lost-unfound (chosen 4096 d) h | inr h ↦ lost h ] in
@@ -110,6 +110,7 @@ module _ (k : model.Settings) (s : State) (few : k .addresses < 4096) (sound : S
       let y : world.Server = record { clock = clock; up = true; silent = None; table = pooled (k .addresses) d } in
       record {
         events = Restarts clock (isLost (chosen 4096 d)) ∷ [];
+        heard = (tt, tt);
         state = cond-both b x y (λ z. modelOf k (has z) ≡ z) (λ e. ap (λ (t : Table). record { clock = clock; up = true; silent = Some (clock + model.silence k); table = t }) (pooled-none (k .addresses) d (none e))) (λ e. refl);
         sends = tells-nobody (rereads k clock d (s .server) .silent);
         stands = cond-both b x y (λ z. Stands k (has z))
@@ -119,10 +120,11 @@ module _ (k : model.Settings) (s : State) (few : k .addresses < 4096) (sound : S
 
 pub settling-stands : SettlingStands
 settling-stands k s few sound quiet =
-    cond-both (s .server .up) (reads k (s .server .clock) s) (silently (record { settings = Some k; server = s .server; device = s .device; cursor = s .cursor })) (λ t. Refines k s (t .state) (grantsIn (t .effects)))
-    (λ e. read-refines k s few sound (λ h. absurd (not-silent (s .server .silent) quiet h)) (s .server .clock))
+    cond-both (s .server .up) (reads k (s .server .clock) s) (silently (record { settings = Some k; server = s .server; device = s .device; cursor = s .cursor })) (λ t. Refines k s (t .state) (grantsIn (t .effects)) Other)
+    (λ e. read-refines k s few sound (λ h. absurd (not-silent (s .server .silent) quiet h)) (s .server .clock) Other)
     (λ e. record {
       events = [];
+      heard = tt;
       state = refl;
       sends = refl;
       stands = record { settled = refl; few = few; sound = sound; ready = λ u. absurd (both-ways _ e u); lost = λ h. absurd (not-silent (s .server .silent) quiet h) };
@@ -184,59 +186,65 @@ module _ (k : model.Settings) (s : State) (st : Stands k s) where
   abbrev m : world.Server
   m = modelOf k s
 
-  unchanged : Refines k s s []
-  unchanged = record { events = []; state = refl; sends = refl; stands = st }
+  unchanged : (o : Cause) → Refines k s s [] o
+  unchanged o = record { events = []; heard = tt; state = refl; sends = refl; stands = st }
 
   -- A TICK
-  ticked : Refines k s (withServer (serverPasses 1 v) s) []
-  ticked =
-      let b : Bool = over (v .clock + 1) (v .up) (v .silent) in
-      let x : world.Server = record { clock = v .clock + 1; up = v .up; silent = None; table = empty } in
-      let y : world.Server = record { clock = v .clock + 1; up = v .up; silent = v .silent; table = v .table } in
-      let y' : world.Server = record { clock = v .clock + 1; up = v .up; silent = v .silent; table = m .table } in
-      elim (cases-bool b) [
+  abbrev over-now : Bool
+  over-now = over (v .clock + 1) (v .up) (v .silent)
+
+  abbrev ended : world.Server
+  ended = record { clock = v .clock + 1; up = v .up; silent = None; table = empty }
+
+  abbrev gone-on : Table → world.Server
+  gone-on t = record { clock = v .clock + 1; up = v .up; silent = v .silent; table = t }
+
+  none-lost : over-now ≡ true → isFound (chosen 4096 (s .device)) ≡ false
+  none-lost e = st .lost (over-silent (v .clock + 1) (v .up) (v .silent) e)
+
+  pub ticks-on : modelOf k (withServer (serverPasses 1 v) s) ≡ serverPasses 1 m
+  ticks-on =
+      elim (cases-bool over-now) [
         | inl e ↦
-            let none : isFound (chosen 4096 (s .device)) ≡ false = st .lost (over-silent (v .clock + 1) (v .up) (v .silent) e) in
-            subst (λ (z : world.Server). Refines k s (withServer z s) []) (sym (cond-true b x y e))
-            (record {
-              events = Passes 1 ∷ [];
-              state = ap (λ (t : Table). record { clock = v .clock + 1; up = v .up; silent = None; table = t }) (pooled-none (k .addresses) (s .device) none) ∙ sym (cond-true b x y' e);
-              sends = refl;
-              stands = record {
-                settled = st .settled;
-                few = st .few;
-                sound = st .sound;
-                ready = λ u. ready-none (k .addresses) (v .clock + 1) (s .device) (s .cursor) (st .sound) (st .ready u .same) none;
-                lost = λ u. none;
-              };
-            })
-        | inr e ↦ subst (λ (z : world.Server). Refines k s (withServer z s) []) (sym (cond-false b x y e))
-            (record {
-              events = Passes 1 ∷ [];
-              state = sym (cond-false b x y' e);
-              sends = refl;
-              stands = record {
-                settled = st .settled;
-                few = st .few;
-                sound = st .sound;
-                ready = λ u. ready-later (k .addresses) (v .clock) (s .device) (s .cursor) (v .clock + 1) (v .table) (omega arith) (st .ready u);
-                lost = st .lost;
-              };
-            })
+            ap (λ (z : world.Server). modelOf k (withServer z s)) (cond-true over-now ended (gone-on (v .table)) e)
+            ∙ ap (λ (t : Table). record { clock = v .clock + 1; up = v .up; silent = None; table = t }) (pooled-none (k .addresses) (s .device) (none-lost e)) ∙ sym (cond-true over-now ended (gone-on (m .table)) e)
+        | inr e ↦ ap (λ (z : world.Server). modelOf k (withServer z s)) (cond-false over-now ended (gone-on (v .table)) e) ∙ sym (cond-false over-now ended (gone-on (m .table)) e)
       ]
 
-  crashed : Refines k s (withServer (crashes v) s) []
+  pub tick-stands : Stands k (withServer (serverPasses 1 v) s)
+  tick-stands =
+      cond-both over-now ended (gone-on (v .table)) (λ z. Stands k (withServer z s))
+      (λ e. record {
+        settled = st .settled;
+        few = st .few;
+        sound = st .sound;
+        ready = λ u. ready-none (k .addresses) (v .clock + 1) (s .device) (s .cursor) (st .sound) (st .ready u .same) (none-lost e);
+        lost = λ u. none-lost e;
+      })
+      (λ e. record {
+        settled = st .settled;
+        few = st .few;
+        sound = st .sound;
+        ready = λ u. ready-later (k .addresses) (v .clock) (s .device) (s .cursor) (v .clock + 1) (v .table) (omega arith) (st .ready u);
+        lost = st .lost;
+      })
+
+  ticked : Refines k s (withServer (serverPasses 1 v) s) [] Time
+  ticked = record { events = Passes 1 ∷ []; heard = ((refl, refl), tt); state = ticks-on; sends = refl; stands = tick-stands }
+
+  crashed : Refines k s (withServer (crashes v) s) [] Other
   crashed =
       record {
         events = Crashes ∷ [];
+        heard = (tt, tt);
         state = refl;
         sends = refl;
         stands = record { settled = st .settled; few = st .few; sound = st .sound; ready = λ u. absurd (both-ways _ refl u); lost = st .lost };
       }
 
-  came-back : (clock : ℕ) → Refines k s (comesBack (s .settings) clock s .state) (grantsIn (comesBack (s .settings) clock s .effects))
+  came-back : (clock : ℕ) → Refines k s (comesBack (s .settings) clock s .state) (grantsIn (comesBack (s .settings) clock s .effects)) Other
   came-back clock =
-      subst (λ (o : Option model.Settings). Refines k s (comesBack o clock s .state) (grantsIn (comesBack o clock s .effects))) (sym (st .settled)) (read-refines k s (st .few) (st .sound) (st .lost) clock)
+      subst (λ (o : Option model.Settings). Refines k s (comesBack o clock s .state) (grantsIn (comesBack o clock s .effects)) Other) (sym (st .settled)) (read-refines k s (st .few) (st .sound) (st .lost) clock Other)
 
   -- A REQUEST
   module _ (r : asked.Request) (g : given.Grant) (ans : answer k v r ≡ Granted g) where
@@ -301,17 +309,19 @@ module _ (k : model.Settings) (s : State) (st : Stands k s) where
         ap (pooled (k .addresses)) (whole-cut (writes p x) (s .device))
         ∙ pooled-with (k .addresses) whole x t true (subst (λ (b : Bool). Exactly (k .addresses) (leases 4096 whole) (with? b x t)) landed-whole h) inside
 
-    appended : Refines k s (appends k g p x s .state) (g ∷ [])
+    appended : Refines k s (appends k g p x s .state) (g ∷ []) (Asking r)
     appended =
         elim (leaves 4096 (k .addresses) (v .clock) (s .device) (s .cursor) (v .table) x (st .few) start (length (writes p x)) Untouched) [
           | inl h ↦ record {
             events = Hears r ∷ [];
+            heard = (refl, tt);
             state = ap with-table (whole-table (leases 4096 (s .device)) h) ∙ sym (served m answer-all);
             sends = sent-one m answer-all;
             stands = stands-after;
           }
           | inr h ↦ record {
             events = Forgets all ∷ (Hears r ∷ []);
+            heard = (tt, (refl, tt));
             state = ap with-table (whole-table (keptIn (v .clock) (leases 4096 (s .device))) h ∙ ap (set x) (cut-kept (k .addresses) (v .clock) (leases 4096 (s .device))))
                 ∙ sym (served m' answer-kept) ∙ ap (occurs k (Hears r)) (sym forgot);
             sends = sent-one m' answer-kept ∙ ap (λ (w : world.Server). sent k (Hears r ∷ []) w) (sym forgot);
@@ -344,17 +354,19 @@ module _ (k : model.Settings) (s : State) (st : Stands k s) where
             lost = λ h. absurd (not-silent (v .silent) (by .quiet) h);
           }
 
-      cut-refines : Refines k s (downWith left s) []
+      cut-refines : Refines k s (downWith left s) [] (Asking r)
       cut-refines =
           elim (leaves 4096 (k .addresses) (v .clock) (s .device) (s .cursor) (v .table) x (st .few) start i c) [
             | inl h ↦ record {
               events = HearsAndCrashes r b ∷ [];
+              heard = (refl, tt);
               state = ap down-with (pooled-with (k .addresses) left x (leases 4096 (s .device)) b h inside) ∙ sym (crashed-at b (m .table) answer-all);
               sends = refl;
               stands = stands-cut;
             }
             | inr h ↦ record {
               events = Forgets all ∷ (HearsAndCrashes r b ∷ []);
+              heard = (tt, (refl, tt));
               state = ap down-with (pooled-with (k .addresses) left x (keptIn (v .clock) (leases 4096 (s .device))) b h inside ∙ ap (with? b x) (cut-kept (k .addresses) (v .clock) (leases 4096 (s .device))))
                   ∙ sym (crashed-at b (m' .table) answer-kept) ∙ ap (occurs k (HearsAndCrashes r b)) (sym forgot);
               sends = refl;
@@ -362,35 +374,35 @@ module _ (k : model.Settings) (s : State) (st : Stands k s) where
             }
           ]
 
-  replied : (r : asked.Request) (a : lent.Answer) → answer k v r ≡ a → Refines k s (replies k a s .state) (grantsIn (replies k a s .effects))
-  replied r Unheard e = unchanged
-  replied r (Refused f) e = unchanged
+  replied : (r : asked.Request) (a : lent.Answer) → answer k v r ≡ a → Refines k s (replies k a s .state) (grantsIn (replies k a s .effects)) (Asking r)
+  replied r Unheard e = unchanged (Asking r)
+  replied r (Refused f) e = unchanged (Asking r)
   replied r (Granted g) e =
-      cond-both (exhausted (planned k s)) (refuses CountExhausted s) (appends k g (planned k s) (leaseOf k s g) s) (λ t. Refines k s (t .state) (grantsIn (t .effects)))
-      (λ h. unchanged) (λ h. appended r g e)
+      cond-both (exhausted (planned k s)) (refuses CountExhausted s) (appends k g (planned k s) (leaseOf k s g) s) (λ t. Refines k s (t .state) (grantsIn (t .effects)) (Asking r))
+      (λ h. unchanged (Asking r)) (λ h. appended r g e)
 
-  asked-for : (r : asked.Request) → Refines k s (requested (s .settings) r s .state) (grantsIn (requested (s .settings) r s .effects))
+  asked-for : (r : asked.Request) → Refines k s (requested (s .settings) r s .state) (grantsIn (requested (s .settings) r s .effects)) (Asking r)
   asked-for r =
-      subst (λ (o : Option model.Settings). Refines k s (requested o r s .state) (grantsIn (requested o r s .effects))) (sym (st .settled)) (replied r (answer k v r) refl)
+      subst (λ (o : Option model.Settings). Refines k s (requested o r s .state) (grantsIn (requested o r s .effects)) (Asking r)) (sym (st .settled)) (replied r (answer k v r) refl)
 
-  refines : (a : Answer) → Refines k s (answers a s .state) (grantsIn (answers a s .effects))
-  refines (Err f) = unchanged
+  refines : (a : Answer) → Refines k s (answers a s .state) (grantsIn (answers a s .effects)) (causeIn a)
+  refines (Err f) = unchanged Other
   refines (Ok (Request r)) = asked-for r
-  refines (Ok (Grant g)) = unchanged
+  refines (Ok (Grant g)) = unchanged Other
   refines (Ok (Settings n t e)) =
-      subst (λ (o : Option model.Settings). Refines k s (learns o n t e s .state) (grantsIn (learns o n t e s .effects))) (sym (st .settled)) unchanged
+      subst (λ (o : Option model.Settings). Refines k s (learns o n t e s .state) (grantsIn (learns o n t e s .effects)) Other) (sym (st .settled)) (unchanged Other)
   refines (Ok Tick) =
-      cond-both (leb (2 ^ 63) (v .clock + 1)) (refuses CountExhausted s) (silently (withServer (serverPasses 1 v) s)) (λ t. Refines k s (t .state) (grantsIn (t .effects)))
-      (λ h. unchanged) (λ h. ticked)
+      cond-both (leb (2 ^ 63) (v .clock + 1)) (refuses CountExhausted s) (silently (withServer (serverPasses 1 v) s)) (λ t. Refines k s (t .state) (grantsIn (t .effects)) Time)
+      (λ h. unchanged Time) (λ h. ticked)
   refines (Ok Crash) = crashed
   refines (Ok (Restart clock)) =
-      cond-both (leb (2 ^ 63) clock) (refuses CountExhausted s) (comesBack (s .settings) clock s) (λ t. Refines k s (t .state) (grantsIn (t .effects)))
-      (λ h. unchanged) (λ h. came-back clock)
-  refines (Ok (OwnNumber c)) = unchanged
-  refines (Ok (Nonce c)) = unchanged
-  refines (Ok (InUse a u)) = unchanged
-  refines (Ok NoAddress) = unchanged
-  refines (Ok (Fault f)) = unchanged
+      cond-both (leb (2 ^ 63) clock) (refuses CountExhausted s) (comesBack (s .settings) clock s) (λ t. Refines k s (t .state) (grantsIn (t .effects)) Other)
+      (λ h. unchanged Other) (λ h. came-back clock)
+  refines (Ok (OwnNumber c)) = unchanged Other
+  refines (Ok (Nonce c)) = unchanged Other
+  refines (Ok (InUse a u)) = unchanged Other
+  refines (Ok NoAddress) = unchanged Other
+  refines (Ok (Fault f)) = unchanged Other
 
 pub step-refines : StepRefines
 unfolding hears

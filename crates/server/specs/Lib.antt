@@ -3,3 +3,5 @@ pub mod Server
 pub mod Of
 pub mod Steps
 pub mod Refines
+pub mod Orderly
+pub mod Follows

@@ -7,6 +7,7 @@ use Prim.Native.Nat.{ℕ, _<_}
 use lib.ListN.{length}
 use Rattle.std.specs.declared.option.Option.{Option}
 use Rattle.std.specs.declared.option.Option.the-variants.{Some, None}
+use Rattle.std.specs.declared.result.Result.the-variants.{Ok, Err}
 use Rattle.lease.specs.declared.answer.Answer as lent
 use Rattle.lease.specs.declared.answer.Answer.the-variants.{Unheard, Granted, Refused}
 use Rattle.lease.specs.declared.message.Grant as given
@@ -16,6 +17,7 @@ use Rattle.lease.specs.World as world
 use Rattle.lease.specs.World.{isSilent}
 use Rattle.lease.specs.Run as run
 use Rattle.lease.specs.Run.{answer, crashes, forgets, restarts, serverPasses, serves}
+use Rattle.wire.specs.Decode.{Answer}
 use Rattle.wire.specs.declared.message.Message.{Message}
 use Rattle.wire.specs.declared.message.Message.the-variants.{Request, Grant, Settings, Tick, Crash, Restart, OwnNumber, Nonce, InUse, NoAddress, Fault}
 use Rattle.journal.specs.Device.{Device, chosen, isFound}
@@ -24,7 +26,7 @@ use Rattle.journal.specs.Crash.{Cut, cutAt, lands}
 use Rattle.journal.specs.Laws.{Ready, Sound}
 use Rattle.server.specs.declared.effect.Effect.{Effect}
 use Rattle.server.specs.declared.effect.Effect.the-variants.{Persist, Send}
-use Rattle.server.specs.Server.{State, Step, hears, leaseOf, planned, pooled, settles}
+use Rattle.server.specs.Server.{State, Step, hears, leaseOf, planned, pooled, settles, understood}
 
 -- the server of the lending core: its table is what the device has of the pool, whatever of it is in memory
 abbrev pub modelOf : model.Settings → State → world.Server
@@ -113,16 +115,50 @@ grantsIn [] = []
 grantsIn (Persist f n ∷ es) = grantsIn es
 grantsIn (Send m ∷ es) = grantOf m ++ grantsIn es
 
+-- what a message can make happen: time, a request, or neither
+pub data Cause : Type 0 where
+  Time : Cause
+  Asking : asked.Request → Cause
+  Other : Cause
+
+abbrev pub causeIn : Answer → Cause
+causeIn (Ok (Request r)) = Asking r
+causeIn (Ok (Grant g)) = Other
+causeIn (Ok (Settings n t e)) = Other
+causeIn (Ok Tick) = Time
+causeIn (Ok Crash) = Other
+causeIn (Ok (Restart clock)) = Other
+causeIn (Ok (OwnNumber n)) = Other
+causeIn (Ok (Nonce n)) = Other
+causeIn (Ok (InUse a u)) = Other
+causeIn (Ok NoAddress) = Other
+causeIn (Ok (Fault f)) = Other
+causeIn (Err f) = Other
+
+abbrev pub From : Cause → Event → Type 0
+From o (Passes n) = (o ≡ Time) × (n ≡ 1)
+From o (Hears r) = o ≡ Asking r
+From o (HearsAndCrashes r wrote) = o ≡ Asking r
+From o Crashes = Unit {0}
+From o (Forgets gone) = Unit {0}
+From o (Restarts clock lost) = Unit {0}
+
+-- time passes and requests are heard for that cause alone
+abbrev pub AllFrom : Cause → List Event → Type 0
+AllFrom o [] = Unit {0}
+AllFrom o (e ∷ es) = From o e × AllFrom o es
+
 -- a state goes on to another as that of the lending core does, with these grants sent
-pub record Refines (k : model.Settings) (s t : State) (gs : List given.Grant) : Type 0 where
+pub record Refines (k : model.Settings) (s t : State) (gs : List given.Grant) (o : Cause) : Type 0 where
   pub events : List Event
+  pub heard : AllFrom o events
   pub state : modelOf k t ≡ occur k events (modelOf k s)
   pub sends : gs ≡ sent k events (modelOf k s)
   pub stands : Stands k t
 
 -- EVERY STEP, whatever the bytes
 abbrev pub StepRefines : Type 0
-StepRefines = (k : model.Settings) (s : State) (bs : List ℕ) → Stands k s → Refines k s (hears bs s .state) (grantsIn (hears bs s .effects))
+StepRefines = (k : model.Settings) (s : State) (bs : List ℕ) → Stands k s → Refines k s (hears bs s .state) (grantsIn (hears bs s .effects)) (causeIn (understood bs s))
 
 -- a server down, with this left on its device
 abbrev pub downWith : Device → State → State
@@ -132,10 +168,10 @@ downWith d s = record { settings = s .settings; server = crashes (s .server); de
 abbrev pub CutRefines : Type 0
 CutRefines =
     (k : model.Settings) (s : State) (r : asked.Request) (g : given.Grant) (i : ℕ) (c : Cut) → Stands k s → answer k (s .server) r ≡ Granted g →
-    Refines k s (downWith (cutAt i c (writes (planned k s) (leaseOf k s g)) (s .device)) s) []
+    Refines k s (downWith (cutAt i c (writes (planned k s) (leaseOf k s g)) (s .device)) s) [] (Asking r)
 
 -- THE SETTINGS COME, and a device that is sound
 abbrev pub SettlingStands : Type 0
 SettlingStands =
     (k : model.Settings) (s : State) → k .addresses < 4096 → Sound 4096 (s .device) → s .server .silent ≡ None →
-    Refines k s (settles k s .state) (grantsIn (settles k s .effects))
+    Refines k s (settles k s .state) (grantsIn (settles k s .effects)) Other

@@ -1,5 +1,5 @@
 ghost use mathlib.Core.Path.{_≡_};
-ghost use mathlib.Core.List.{_++_};
+ghost use mathlib.Core.List.{[], _∷_, _++_};
 ghost use Prim.Native.Nat.{_+_, _≤_};
 ghost use Rattle.std.specs.Of.Vec.{vec-cap, vec-items, vec-len};
 ghost use Rattle.server.specs.Reply.{effectsOf};
@@ -34,12 +34,21 @@ impl Reply {
             Reply::Nothing => {}
             Reply::Refused(fault) => out.push_reserved(Effect::Send(Message::Fault(fault))),
             Reply::Granted(written, grant) => {
-                out.push_reserved(Effect::Persist {
+                let persist = Effect::Persist {
                     first: written.first,
                     count: written.count,
-                });
-                out.push_reserved(Effect::Send(Message::Grant(grant)));
+                };
+                both(out, persist, Effect::Send(Message::Grant(grant)));
             }
         }
     }
+}
+
+// Appends one effect and then the other.
+fn both(out: &mut Vec<Effect>, earlier: Effect, later: Effect)
+    requires { ⌜ vec-len (now out) + 2 ≤ vec-cap (now out) ⌝ }
+    ensures { λ _. ⌜ vec-items (now (out .exit)) ≡ vec-items (now (out .entry)) ++ (earlier ∷ (later ∷ [])) ⌝ }
+{
+    out.push_reserved(earlier);
+    out.push_reserved(later);
 }

@@ -13,6 +13,8 @@ ghost use Rattle.wire.specs.declared.message.Message.the-variants as message;
 ghost use Rattle.server.specs.Of.{stateOf};
 ghost use Rattle.server.specs.Server.{does, fresh, hears, settling, settlingBy, understood};
 ghost use Rattle.server.specs.Steps.{Comes};
+ghost use Rattle.server.specs.Orderly.{Orderly};
+ghost use Rattle.server.specs.Refines.{StepRefines};
 ghost use Rattle.journal.specs.Memory.{cursorOf, placesOf};
 use crate::effect::Effect;
 use crate::effect::Reply;
@@ -177,8 +179,7 @@ impl Server {
         }
     }
 
-    // Hears one message's bytes, and appends what is to be made durable and sent then, in order. Without the memory for it nothing changes.
-    pub fn hear(&mut self, bytes: &[u8], out: &mut Vec<Effect>) -> Result<(), AllocError>
+    fn hear_bytes(&mut self, bytes: &[u8], out: &mut Vec<Effect>) -> Result<(), AllocError>
         ensures state { λ r. ⌜ stateOf (now (self .exit)) ≡ cond (isOk r) (hears (now (bytes .entry)) (stateOf (now (self .entry))) .state) (stateOf (now (self .entry))) ⌝ }
         ensures out { λ r. ⌜ vec-items (now (out .exit)) ≡ cond (isOk r) (vec-items (now (out .entry)) ++ hears (now (bytes .entry)) (stateOf (now (self .entry))) .effects) (vec-items (now (out .entry))) ⌝ }
         ensures succeeds { λ r. ⌜ (vec-len (now (out .entry)) + 2 ≤ vec-cap (now (out .entry)) → settlingBy (understood (now (bytes .entry)) (stateOf (now (self .entry)))) ≡ false → isOk r ≡ true) ⌝ }
@@ -187,5 +188,16 @@ impl Server {
         let reply = self.answer(bytes)?;
         reply.put(out);
         Ok(())
+    }
+
+    // Hears one message's bytes, and appends what is to be made durable and sent then, in order. Without the memory for it nothing changes.
+    pub fn hear(&mut self, bytes: &[u8], out: &mut Vec<Effect>) -> Result<(), AllocError>
+        ensures state { λ r. ⌜ stateOf (now (self .exit)) ≡ cond (isOk r) (hears (now (bytes .entry)) (stateOf (now (self .entry))) .state) (stateOf (now (self .entry))) ⌝ }
+        ensures out { λ r. ⌜ vec-items (now (out .exit)) ≡ cond (isOk r) (vec-items (now (out .entry)) ++ hears (now (bytes .entry)) (stateOf (now (self .entry))) .effects) (vec-items (now (out .entry))) ⌝ }
+        ensures succeeds { λ r. ⌜ (vec-len (now (out .entry)) + 2 ≤ vec-cap (now (out .entry)) → settlingBy (understood (now (bytes .entry)) (stateOf (now (self .entry)))) ≡ false → isOk r ≡ true) ⌝ }
+        ensures orderly { λ _. ⌜ Orderly (stateOf (now (self .entry))) (hears (now (bytes .entry)) (stateOf (now (self .entry)))) ⌝ }
+        ensures refines { λ _. ⌜ StepRefines ⌝ }
+    {
+        self.hear_bytes(bytes, out)
     }
 }
