@@ -1,0 +1,25 @@
+use mathlib.Core.Path.{_≡_, refl, sym, ap, subst, _∙_}
+use mathlib.Core.List.{List}
+use native.Mathlib.Omega.{arith}
+use Prim.Native.Nat.{ℕ}
+use lib.ListN.{length}
+use Rattle.std.specs.Of.Vec.{vec-items}
+use Rattle.std.proofs.shelf.Lists.{refilled-is}
+use Rattle.std.specs.declared.option.Option.{Option}
+use Rattle.lease.specs.declared.lease.Lease.{Lease}
+use Rattle.lease.specs.Stands.{KeeperLoaded}
+use Rattle.journal.specs.declared.state.Found.{Found}
+use Rattle.server.specs.Steps.{missing}
+use Rattle.server.specs.Server.{tells}
+use Rattle.server.proofs.Readings.{has-read}
+use Rattle.server.proofs.lender.Lender.read.Needs as need
+
+pub returns : need.returns
+returns c =
+    let xs : List (Option Lease) = c .recover .last .table in
+    let n : length xs ≡ c .args .self .now .places .len = omega (arith, c .deref-mut .ensures .len, c .args .self .now .places .ok .0) in
+    let e : c .deref .result .now ≡ xs = c .deref .ensures .value ∙ refilled-is (c .args .self .now .places) xs n in
+    has-read (c .args .self .now .keeper) (c .load .last .self) (c .restart .last .self) (c .args .journal .now) (c .recover .last .self) xs (c .args .clock .ticks) _ (c .told .result)
+    (n ∙ c .args .self .now .sized) (c .recover .ensures .device) (c .recover .ensures .journal) (c .recover .ensures .table)
+    (subst (λ (ys : List (Option Lease)). KeeperLoaded ys (c .args .self .now .keeper) (c .load .last .self)) e (c .load .ensures))
+    (c .read-as-found .ensures ∙ ap (λ (f : Found). missing f) (c .recover .ensures .found)) (c .restart .ensures) (c .told .ensures ∙ ap (λ (o : Option ℕ). tells o) (c .silent .ensures))
