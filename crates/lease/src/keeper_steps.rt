@@ -85,19 +85,17 @@ impl Keeper {
     pub fn answer(&self, request: Request) -> Answer
         ensures { λ r. ⌜ r ≡ answered (settingsOf (now (self .entry) .settings)) (serverOf (now (self .entry))) request ⌝ }
     {
-        if !self.up {
-            return Answer::Unheard;
-        }
-        let None = self.silent else {
-            return Answer::Refused(Fault::TableLost);
-        };
-        match self.table.choose(self.clock, request) {
-            Some(address) => Answer::Granted(Grant {
-                client: request.client,
-                nonce: request.nonce,
-                address,
-            }),
-            None => Answer::Refused(Fault::NoneFree),
+        match (self.up, self.silent) {
+            (false, _) => Answer::Unheard,
+            (true, Some(_)) => Answer::Refused(Fault::TableLost),
+            (true, None) => match self.table.choose(self.clock, request) {
+                Some(address) => Answer::Granted(Grant {
+                    client: request.client,
+                    nonce: request.nonce,
+                    address,
+                }),
+                None => Answer::Refused(Fault::NoneFree),
+            },
         }
     }
 
