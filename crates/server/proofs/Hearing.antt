@@ -13,6 +13,7 @@ use Rattle.std.specs.declared.result.Result.the-variants.{Ok, Err}
 use Rattle.lease.specs.declared.fault.Fault.{Fault}
 use Rattle.lease.specs.declared.settings.Settings.{Settings}
 use Rattle.lease.specs.Of.{settingsOf}
+use Rattle.journal.specs.declared.journal.Journal.{Journal}
 use Rattle.wire.specs.declared.message.Message.{Message}
 use Rattle.wire.specs.Decode.{Answer, pool}
 use Rattle.server.specs.declared.effect.Reply.{Reply}
@@ -25,11 +26,11 @@ pool-size None = refl
 pool-size (Some s) = refl
 
 module _ (bs : List ℕ) (s : State) where
-  pub heard-ok : {E : Type 0} (m : Message) (r : Result Reply E) (t : State) → understood bs s ≡ Ok m → Cases r (λ x. Comes (does m s) x t) (λ _. (t ≡ s) × (settling m ≡ true)) →
-      Cases r (λ x. Comes (hears bs s) x t) (λ _. (t ≡ s) × (settlingBy (understood bs s) ≡ true))
+  pub heard-ok : {E : Type 0} (m : Message) (r : Result Reply E) (b a : Journal) (t : State) → understood bs s ≡ Ok m → Cases r (λ x. Comes b s (does m s) x a t) (λ _. (t ≡ s) × (settling m ≡ true)) →
+      Cases r (λ x. Comes b s (hears bs s) x a t) (λ _. (t ≡ s) × (settlingBy (understood bs s) ≡ true))
   unfolding hears
-  heard-ok m r t e h = subst (λ (a : Answer). Cases r (λ x. Comes (answers a s) x t) (λ _. (t ≡ s) × (settlingBy a ≡ true))) (sym e) h
+  heard-ok m r b a t e h = subst (λ (y : Answer). Cases r (λ x. Comes b s (answers y s) x a t) (λ _. (t ≡ s) × (settlingBy y ≡ true))) (sym e) h
 
-  pub heard-err : (f : Fault) → understood bs s ≡ Err f → Comes (hears bs s) (Refused f) s
+  pub heard-err : (f : Fault) (b : Journal) → understood bs s ≡ Err f → Comes b s (hears bs s) (Refused f) b s
   unfolding hears
-  heard-err f e = subst (λ (a : Answer). Comes (answers a s) (Refused f) s) (sym e) (record { state = refl; effects = refl })
+  heard-err f b e = subst (λ (y : Answer). Comes b s (answers y s) (Refused f) b s) (sym e) (record { state = refl; effects = refl; file = refl })

@@ -1,6 +1,6 @@
 -- What is made durable is what was written, and precedes the grant.
 -- Assumes nothing.
-use mathlib.Core.Path.{_≡_, refl, sym, ap, _∙_}
+use mathlib.Core.Path.{_≡_, refl, sym, ap, subst, _∙_}
 use mathlib.Core.Bool.{Bool, cond}
 use mathlib.Core.Logic.{_⊎_, inl, inr}
 use mathlib.Core.List.{List, [], _∷_, _++_}
@@ -28,7 +28,14 @@ use Rattle.journal.specs.Append.{Plan, Write, exhausted, numbered, writes}
 use Rattle.journal.specs.Image.{index}
 use Rattle.server.specs.Server.{State, Step, answers, appends, comesBack, hears, leaseOf, learns, planned, reads, refuses, replies, requested, rereads, settles, silently, tells, understood, withServer}
 use Rattle.server.specs.Refines.{grantsIn}
-use Rattle.server.specs.Orderly.{Grants, Orderly, StepsOrderly, WritesNothing, persisted, upFrom, written}
+use Rattle.journal.specs.declared.journal.Journal.{Journal}
+use Rattle.journal.specs.Durable.{CutFile}
+use Rattle.server.specs.declared.effect.Reply.{Reply}
+use Rattle.server.specs.declared.effect.Reply.the-variants as reply
+use Rattle.server.specs.declared.effect.Reply.the-variants.{Nothing}
+use Rattle.server.specs.Reply.{effectsOf}
+use Rattle.server.specs.Steps.{FiledBy}
+use Rattle.server.specs.Orderly.{FileBy, Grants, Orderly, StepsOrderly, WritesNothing, persisted, upFrom, written}
 
 next-place : (s : Side) (k : ℕ) → suc (index s k) ≡ index s (suc k)
 next-place Row0 k = refl
@@ -125,3 +132,23 @@ module _ (s : State) where
 pub steps-orderly : StepsOrderly
 unfolding hears
 steps-orderly s bs = ordered s (understood bs s)
+
+-- by what the step comes to
+pub file-by : (o : Option model.Settings) (r : Reply) (b a : Journal) (s : State) → s .settings ≡ o → FiledBy o r b a s → FileBy (effectsOf r) b a s
+file-by o Nothing b a s e f = record { unwritten = λ z. f; cut = λ k g i n h z. absurd (let y : _≡_ {A = ℕ} 0 1 = cc in omega arith) }
+file-by o (reply.Refused x) b a s e f = record { unwritten = λ z. f; cut = λ k g i n h z. absurd (let y : _≡_ {A = ℕ} 0 1 = cc in omega arith) }
+file-by None (reply.Granted w q) b a s e f =
+    record { unwritten = λ z. absurd (let y : _≡_ {A = ℕ} 0 1 = cc in omega arith); cut = λ k g i n h z. absurd (let y : _≡_ {A = ℕ} 0 1 = cc in omega arith) }
+file-by (Some j) (reply.Granted w q) b a s e f =
+    record {
+      unwritten = λ z. absurd (let y : _≡_ {A = ℕ} 0 1 = cc in omega arith);
+      cut = λ k g i n h z.
+          let kj : j ≡ k = cc in
+          let gq : q ≡ g = cc in
+          let wi : w .first ≡ i = cc in
+          let wn : w .count ≡ n = cc in
+          subst (λ (y : model.Settings). CutFile b a (planned y s) (leaseOf y s g) (record { first = i; count = n })) kj
+          (subst (λ (y : given.Grant). CutFile b a (planned j s) (leaseOf j s y) (record { first = i; count = n })) gq
+          (subst (λ (y : ℕ). CutFile b a (planned j s) (leaseOf j s q) (record { first = i; count = y })) wn
+          (subst (λ (y : ℕ). CutFile b a (planned j s) (leaseOf j s q) (record { first = y; count = w .count })) wi f)));
+    }

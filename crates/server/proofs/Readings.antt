@@ -30,7 +30,7 @@ use Rattle.journal.proofs.Runs.{filed-at}
 use Rattle.server.specs.declared.effect.Reply.{Reply}
 use Rattle.server.specs.Reply.{effectsOf}
 use Rattle.server.specs.Server.{isLost, pooled, reads, rereads, tells}
-use Rattle.server.specs.Steps.{Comes, missing}
+use Rattle.server.specs.Steps.{Comes, FiledBy, missing}
 use Rattle.server.proofs.States.{same-state, stateBy}
 
 at-home : (a : ℕ) (e : Option Lease) → ((l : Lease) → e ≡ Some l → l .address ≡ a) → atHome a e ≡ e
@@ -59,9 +59,9 @@ module _ (k l m : Keeper) (before after : Journal) (xs : List (Option Lease)) (c
   pub has-read : length xs ≡ k .settings .addresses → vec-items (after .device) ≡ vec-items (before .device) →
       Recovered (deviceOf (vec-items (after .device))) (after .rows) (after .active) (after .highest) (after .found) →
       ((a : ℕ) → a < length xs → getD xs a None ≡ leases 4096 (deviceOf (vec-items (after .device))) a) →
-      KeeperLoaded xs k l → lost ≡ missing (after .found) → KeeperRestarted clock lost l m → effectsOf r ≡ tells (m .silent) →
-      Comes (reads (settingsOf (k .settings)) clock (stateBy k before)) r (stateBy m after)
-  has-read size same rec table load miss up says =
+      FiledBy (Some (settingsOf (k .settings))) r before after (stateBy k before) → KeeperLoaded xs k l → lost ≡ missing (after .found) → KeeperRestarted clock lost l m → effectsOf r ≡ tells (m .silent) →
+      Comes before (stateBy k before) (reads (settingsOf (k .settings)) clock (stateBy k before)) r after (stateBy m after)
+  has-read size same rec table file load miss up says =
       let s : model.Settings = settingsOf (k .settings) in
       let t : (a : ℕ) → a < length xs → getD xs a None ≡ leases 4096 d a = λ a b. table a b ∙ ap (λ (bs : List (List ℕ)). leases 4096 (deviceOf bs) a) same in
       let p : loaded (k .settings .addresses) xs ≡ pooled (s .addresses) d = loaded-pooled (s .addresses) d xs size t in
@@ -75,4 +75,5 @@ module _ (k l m : Keeper) (before after : Journal) (xs : List (Option Lease)) (c
       record {
         state = same-state _ _ _ _ _ _ _ _ (ap Some (ap settingsOf (up .0) ∙ z)) v (ap deviceOf same) (rec .cursor ∙ ap (λ (bs : List (List ℕ)). cursor 4096 (deviceOf bs)) same);
         effects = says ∙ ap (λ (y : world.Server). tells (y .silent)) v;
+        file = file;
       }

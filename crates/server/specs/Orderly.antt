@@ -9,11 +9,14 @@ use Rattle.lease.specs.declared.message.Grant as given
 use Rattle.lease.specs.Settings as model
 use Rattle.wire.specs.declared.message.Message.the-variants.{Grant}
 use Rattle.journal.specs.Append.{Write, perform, writes}
+use Rattle.journal.specs.Durable.{CutFile}
 use Rattle.journal.specs.Image.{index}
+use Rattle.journal.specs.declared.journal.Journal.{Journal}
 use Rattle.server.specs.declared.effect.Effect.{Effect}
 use Rattle.server.specs.declared.effect.Effect.the-variants.{Persist, Send}
 use Rattle.server.specs.Server.{State, Step, hears, leaseOf, planned}
 use Rattle.server.specs.Refines.{grantsIn}
+use Rattle.server.specs.Steps.{Unwritten}
 
 -- so many places from the first on
 abbrev pub upFrom : (first count : ℕ) → List ℕ
@@ -58,3 +61,10 @@ Orderly s t = WritesNothing s t ⊎ Grants s t
 
 abbrev pub StepsOrderly : Type 0
 StepsOrderly = (s : State) (bs : List ℕ) → Orderly s (hears bs s)
+
+-- THE FILE of the device: where nothing is granted the bytes in memory are as they were; else, while the places are made durable one after the other,
+-- also where a crash cuts one of these writes, the file holds a device as the journal's laws have it
+pub record FileBy (es : List Effect) (before after : Journal) (s : State) : Type 0 where
+  pub unwritten : grantsIn es ≡ [] → Unwritten before after
+  pub cut : (k : model.Settings) (g : given.Grant) (first count : ℕ) → s .settings ≡ Some k → es ≡ Persist first count ∷ (Send (Grant g) ∷ []) →
+      CutFile before after (planned k s) (leaseOf k s g) (record { first = first; count = count })

@@ -13,7 +13,7 @@ ghost use Rattle.wire.specs.declared.message.Message.the-variants as message;
 ghost use Rattle.server.specs.Of.{stateOf};
 ghost use Rattle.server.specs.Server.{does, fresh, hears, settling, settlingBy, understood};
 ghost use Rattle.server.specs.Steps.{Comes};
-ghost use Rattle.server.specs.Orderly.{Orderly};
+ghost use Rattle.server.specs.Orderly.{FileBy, Orderly};
 ghost use Rattle.server.specs.Refines.{StepRefines};
 ghost use Rattle.journal.specs.Memory.{cursorOf, placesOf};
 use crate::effect::Effect;
@@ -77,7 +77,7 @@ impl Server {
     }
 
     fn request(&mut self, request: Request) -> Reply
-        ensures { λ r. ⌜ Comes (does (message.Request request) (stateOf (now (self .entry)))) r (stateOf (now (self .exit))) ⌝ }
+        ensures { λ r. ⌜ Comes (now (self .entry) .journal) (stateOf (now (self .entry))) (does (message.Request request) (stateOf (now (self .entry)))) r (now (self .exit) .journal) (stateOf (now (self .exit))) ⌝ }
     {
         match &mut self.phase {
             Phase::Unsettled(_, _) => Reply::Refused(Fault::BadSettings),
@@ -86,7 +86,7 @@ impl Server {
     }
 
     fn tick(&mut self) -> Reply
-        ensures { λ r. ⌜ Comes (does message.Tick (stateOf (now (self .entry)))) r (stateOf (now (self .exit))) ⌝ }
+        ensures { λ r. ⌜ Comes (now (self .entry) .journal) (stateOf (now (self .entry))) (does message.Tick (stateOf (now (self .entry)))) r (now (self .exit) .journal) (stateOf (now (self .exit))) ⌝ }
     {
         match &mut self.phase {
             Phase::Unsettled(clock, _) => match clock.after(1) {
@@ -101,7 +101,7 @@ impl Server {
     }
 
     fn crash(&mut self) -> Reply
-        ensures { λ r. ⌜ Comes (does message.Crash (stateOf (now (self .entry)))) r (stateOf (now (self .exit))) ⌝ }
+        ensures { λ r. ⌜ Comes (now (self .entry) .journal) (stateOf (now (self .entry))) (does message.Crash (stateOf (now (self .entry)))) r (now (self .exit) .journal) (stateOf (now (self .exit))) ⌝ }
     {
         match &mut self.phase {
             Phase::Unsettled(_, up) => *up = false,
@@ -111,7 +111,7 @@ impl Server {
     }
 
     fn restart(&mut self, ticks: u64) -> Reply
-        ensures { λ r. ⌜ Comes (does (message.Restart ticks) (stateOf (now (self .entry)))) r (stateOf (now (self .exit))) ⌝ }
+        ensures { λ r. ⌜ Comes (now (self .entry) .journal) (stateOf (now (self .entry))) (does (message.Restart ticks) (stateOf (now (self .entry)))) r (now (self .exit) .journal) (stateOf (now (self .exit))) ⌝ }
     {
         let clock = match Clock::at(ticks) {
             Ok(clock) => clock,
@@ -129,7 +129,7 @@ impl Server {
 
     // The memory for the pool is got; without it nothing changes.
     fn learn(&mut self, addresses: u16, term: u32, skew: u16) -> Result<Reply, AllocError>
-        ensures { λ r. ⌜ Cases r (λ x. Comes (does (message.Settings addresses term skew) (stateOf (now (self .entry)))) x (stateOf (now (self .exit)))) (λ _. stateOf (now (self .exit)) ≡ stateOf (now (self .entry))) ⌝ }
+        ensures { λ r. ⌜ Cases r (λ x. Comes (now (self .entry) .journal) (stateOf (now (self .entry))) (does (message.Settings addresses term skew) (stateOf (now (self .entry)))) x (now (self .exit) .journal) (stateOf (now (self .exit)))) (λ _. stateOf (now (self .exit)) ≡ stateOf (now (self .entry))) ⌝ }
     {
         let Phase::Unsettled(clock, up) = self.phase else {
             return Ok(Reply::Refused(Fault::BadSettings));
@@ -139,17 +139,13 @@ impl Server {
             Err(fault) => return Ok(Reply::Refused(fault)),
         };
         let mut lender = Lender::new(self.heap, settings, clock, up)?;
-        let reply = if up {
-            lender.read(&mut self.journal, clock)
-        } else {
-            Reply::Nothing
-        };
+        let reply = lender.begin(&mut self.journal, clock, up);
         self.phase = Phase::Settled(lender);
         Ok(reply)
     }
 
     fn receive(&mut self, message: Message) -> Result<Reply, AllocError>
-        ensures { λ r. ⌜ Cases r (λ x. Comes (does message (stateOf (now (self .entry)))) x (stateOf (now (self .exit)))) (λ _. (stateOf (now (self .exit)) ≡ stateOf (now (self .entry))) × (settling message ≡ true)) ⌝ }
+        ensures { λ r. ⌜ Cases r (λ x. Comes (now (self .entry) .journal) (stateOf (now (self .entry))) (does message (stateOf (now (self .entry)))) x (now (self .exit) .journal) (stateOf (now (self .exit)))) (λ _. (stateOf (now (self .exit)) ≡ stateOf (now (self .entry))) × (settling message ≡ true)) ⌝ }
     {
         match message {
             Message::Settings {
@@ -171,7 +167,7 @@ impl Server {
     }
 
     fn answer(&mut self, bytes: &[u8]) -> Result<Reply, AllocError>
-        ensures { λ r. ⌜ Cases r (λ x. Comes (hears (now (bytes .entry)) (stateOf (now (self .entry)))) x (stateOf (now (self .exit)))) (λ _. (stateOf (now (self .exit)) ≡ stateOf (now (self .entry))) × (settlingBy (understood (now (bytes .entry)) (stateOf (now (self .entry)))) ≡ true)) ⌝ }
+        ensures { λ r. ⌜ Cases r (λ x. Comes (now (self .entry) .journal) (stateOf (now (self .entry))) (hears (now (bytes .entry)) (stateOf (now (self .entry)))) x (now (self .exit) .journal) (stateOf (now (self .exit)))) (λ _. (stateOf (now (self .exit)) ≡ stateOf (now (self .entry))) × (settlingBy (understood (now (bytes .entry)) (stateOf (now (self .entry)))) ≡ true)) ⌝ }
     {
         match Message::decode(Reader::Server, self.settings(), bytes) {
             Ok(message) => self.receive(message),
@@ -183,6 +179,7 @@ impl Server {
         ensures state { λ r. ⌜ stateOf (now (self .exit)) ≡ cond (isOk r) (hears (now (bytes .entry)) (stateOf (now (self .entry))) .state) (stateOf (now (self .entry))) ⌝ }
         ensures out { λ r. ⌜ vec-items (now (out .exit)) ≡ cond (isOk r) (vec-items (now (out .entry)) ++ hears (now (bytes .entry)) (stateOf (now (self .entry))) .effects) (vec-items (now (out .entry))) ⌝ }
         ensures succeeds { λ r. ⌜ (vec-len (now (out .entry)) + 2 ≤ vec-cap (now (out .entry)) → settlingBy (understood (now (bytes .entry)) (stateOf (now (self .entry)))) ≡ false → isOk r ≡ true) ⌝ }
+        ensures file { λ r. ⌜ (isOk r ≡ true → FileBy (hears (now (bytes .entry)) (stateOf (now (self .entry))) .effects) (now (self .entry) .journal) (now (self .exit) .journal) (stateOf (now (self .entry)))) ⌝ }
     {
         out.reserve(MOST_EFFECTS)?;
         let reply = self.answer(bytes)?;
@@ -195,6 +192,7 @@ impl Server {
         ensures state { λ r. ⌜ stateOf (now (self .exit)) ≡ cond (isOk r) (hears (now (bytes .entry)) (stateOf (now (self .entry))) .state) (stateOf (now (self .entry))) ⌝ }
         ensures out { λ r. ⌜ vec-items (now (out .exit)) ≡ cond (isOk r) (vec-items (now (out .entry)) ++ hears (now (bytes .entry)) (stateOf (now (self .entry))) .effects) (vec-items (now (out .entry))) ⌝ }
         ensures succeeds { λ r. ⌜ (vec-len (now (out .entry)) + 2 ≤ vec-cap (now (out .entry)) → settlingBy (understood (now (bytes .entry)) (stateOf (now (self .entry)))) ≡ false → isOk r ≡ true) ⌝ }
+        ensures file { λ r. ⌜ (isOk r ≡ true → FileBy (hears (now (bytes .entry)) (stateOf (now (self .entry))) .effects) (now (self .entry) .journal) (now (self .exit) .journal) (stateOf (now (self .entry)))) ⌝ }
         ensures orderly { λ _. ⌜ Orderly (stateOf (now (self .entry))) (hears (now (bytes .entry)) (stateOf (now (self .entry)))) ⌝ }
         ensures refines { λ _. ⌜ StepRefines ⌝ }
     {

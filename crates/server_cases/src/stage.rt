@@ -76,7 +76,10 @@ impl Stage {
         self.out.clear();
         self.server.hear(bytes, &mut self.out)?;
         for i in 0..self.out.len() {
-            if let Effect::Persist { first, count } = self.out[i] {
+            let Some(effect) = self.out.get(i).copied() else {
+                break;
+            };
+            if let Effect::Persist { first, count } = effect {
                 self.persist(first, count)?;
             }
         }

@@ -9,6 +9,7 @@ returns c =
       state = c .hear-bytes .ensures .state;
       out = c .hear-bytes .ensures .out;
       succeeds = c .hear-bytes .ensures .succeeds;
+      file = c .hear-bytes .ensures .file;
       orderly = steps-orderly (stateOf (c .args .self .now)) (c .args .bytes .now);
       refines = step-refines;
     }
