@@ -15,7 +15,8 @@ use std::error::AnyError;
 
 const ADDRESSES: usize = 6;
 
-const STEPS: u32 = 40_000;
+// So many that a million are answered.
+const STEPS: u32 = 1_100_000;
 
 // Numbers that look drawn, the same in every run.
 fn draw(random: &mut u32, below: u32) -> u32
@@ -54,25 +55,27 @@ fn clear(image: &mut [u8], k: usize) {
     }
 }
 
-// A crash after so many whole writes, which cuts the next.
-fn cut(image: &mut [u8], journal: &Journal, written: Written, random: &mut u32) {
+// A crash after so many whole writes, which cuts the next; tells whether all the same every record stands.
+fn cut(image: &mut [u8], journal: &Journal, written: Written, random: &mut u32) -> bool {
     let Ok(count) = u32::try_from(written.count) else {
-        return;
+        return false;
     };
     if count == 0 || written.first > 8192 {
-        return;
+        return false;
     }
     let whole = draw(random, count);
     for j in 0..whole {
         persist(image, journal, written.first + j as usize, 28);
     }
     let k = written.first + whole as usize;
-    match draw(random, 4) {
+    let way = draw(random, 4);
+    match way {
         0 => {}
         1 => persist(image, journal, k, 28),
         2 => persist(image, journal, k, 14),
         _ => clear(image, k),
     }
+    way == 1 && whole == count - 1
 }
 
 fn show(
@@ -113,13 +116,172 @@ fn drawn(random: &mut u32, clock: u64) -> Lease
     }
 }
 
+// What has happened so far, and a digest of each table that was recovered.
+#[derive(Clone, Copy)]
+struct Tally {
+    answered: u32,
+    switches: u32,
+    bare_switches: u32,
+    cuts: u32,
+    cut_switches: u32,
+    stood: u32,
+    digest: u64,
+}
+
+fn mixed(digest: u64, x: u64) -> u64 {
+    (digest ^ x).wrapping_mul(1_099_511_628_211)
+}
+
+fn digest_of(before: u64, table: &[Option<Lease>]) -> u64 {
+    let mut digest = mixed(before, 1);
+    for entry in table {
+        match entry {
+            Some(lease) => {
+                digest = mixed(digest, u64::from(lease.client));
+                digest = mixed(digest, lease.expires);
+            }
+            None => digest = mixed(digest, 0),
+        }
+    }
+    digest
+}
+
+// The same lease, or one that is over on both sides.
+fn alike(clock: u64, found: Option<Lease>, answered: Option<Lease>) -> bool {
+    match (found, answered) {
+        (Some(a), Some(b)) => {
+            let same = a.address == b.address && a.client == b.client && a.expires == b.expires;
+            same || (a.expires < clock && b.expires < clock)
+        }
+        (Some(lease), None) | (None, Some(lease)) => lease.expires < clock,
+        (None, None) => true,
+    }
+}
+
+// Whether a recovered table has the live leases that were answered for, and no other.
+fn is_answered(clock: u64, found: &[Option<Lease>], answered: &[Option<Lease>]) -> bool {
+    if found.len() != answered.len() {
+        return false;
+    }
+    for i in 0..found.len() {
+        if !alike(clock, found[i], answered[i]) {
+            return false;
+        }
+    }
+    true
+}
+
+fn set(table: &mut [Option<Lease>], lease: Lease) {
+    let at = usize::from(lease.address);
+    if at < table.len() {
+        table[at] = Some(lease);
+    }
+}
+
+fn begins_row(written: Written) -> bool {
+    written.first % 4096 == 0
+}
+
+fn persist_all(image: &mut [u8], journal: &Journal, written: Written) {
+    for j in 0..written.count {
+        if written.first <= 8192 && j < 8192 {
+            persist(image, journal, written.first + j, 28);
+        }
+    }
+}
+
+fn show_tally(rt: &LibcRuntime, steps: u32, tally: &Tally, image: &[u8]) -> Result<(), AnyError> {
+    let answered = tally.answered;
+    let switches = tally.switches;
+    let bare = tally.bare_switches;
+    let cuts = tally.cuts;
+    let cut_switches = tally.cut_switches;
+    let stood = tally.stood;
+    let digest = tally.digest;
+    let sum = crc32c(image);
+    println!(
+        rt,
+        "{steps}: {answered} answered, {switches} switches, {bare} with no live lease, {cuts} cuts, {cut_switches} in switches, {stood} stood, tables {digest:016x}, device {sum:08x}"
+    )?;
+    Ok(())
+}
+
+// A server in memory: its device, its table, and the leases that were answered whether it still knows them or not.
+#[derive(Drop)]
+struct Server {
+    image: Vec<u8>,
+    journal: Journal,
+    table: Vec<Option<Lease>>,
+    answered: Vec<Option<Lease>>,
+    tally: Tally,
+}
+
+impl Server {
+    fn new(heap: Global) -> Result<Server, AnyError> {
+        let image = vec![in heap; 0u8; device_bytes()]?;
+        Ok(Server {
+            journal: opened(heap, &image)?,
+            image,
+            table: vec![in heap; None; ADDRESSES]?,
+            answered: vec![in heap; None; ADDRESSES]?,
+            tally: Tally {
+                answered: 0,
+                switches: 0,
+                bare_switches: 0,
+                cuts: 0,
+                cut_switches: 0,
+                stood: 0,
+                digest: 14_695_981_039_346_656_037,
+            },
+        })
+    }
+
+    fn answer(&mut self, written: Written, lease: Lease) {
+        persist_all(&mut self.image, &self.journal, written);
+        set(&mut self.table, lease);
+        set(&mut self.answered, lease);
+        self.tally.answered = self.tally.answered.wrapping_add(1);
+        if begins_row(written) {
+            self.tally.switches = self.tally.switches.wrapping_add(1);
+            if written.count == 1 {
+                self.tally.bare_switches = self.tally.bare_switches.wrapping_add(1);
+            }
+        }
+    }
+
+    // A crash within an append, and the restart: the table is what was answered, with the lease only where its record stands.
+    fn crash(
+        &mut self,
+        heap: Global,
+        clock: u64,
+        written: Written,
+        lease: Lease,
+        random: &mut u32,
+    ) -> Result<(), AnyError> {
+        let stands = cut(&mut self.image, &self.journal, written, random);
+        if stands {
+            set(&mut self.answered, lease);
+            self.tally.stood = self.tally.stood.wrapping_add(1);
+        }
+        self.journal = opened(heap, &self.image)?;
+        let _ = self.journal.recover(&mut self.table);
+        if !is_answered(clock, &self.table, &self.answered) {
+            return Err("recovery gives another table than was answered".into());
+        }
+        self.tally.cuts = self.tally.cuts.wrapping_add(1);
+        if begins_row(written) {
+            self.tally.cut_switches = self.tally.cut_switches.wrapping_add(1);
+        }
+        self.tally.digest = digest_of(self.tally.digest, &self.table);
+        Ok(())
+    }
+}
+
 fn play(rt: &LibcRuntime, heap: Global) -> Result<(), AnyError> {
-    let mut image = vec![in heap; 0u8; device_bytes()]?;
-    let mut table: Vec<Option<Lease>> = vec![in heap; None; ADDRESSES]?;
-    let mut journal = opened(heap, &image)?;
+    let mut server = Server::new(heap)?;
     let mut random: u32 = 7;
     let mut clock: u64 = 0;
-    for step in 0..STEPS {
+    for step in 1..STEPS + 1 {
         if draw(&mut random, 16) == 0 && clock < 999_999_000 {
             clock += u64::from(draw(&mut random, 40));
         }
@@ -127,28 +289,21 @@ fn play(rt: &LibcRuntime, heap: Global) -> Result<(), AnyError> {
             return Err("the clock is late".into());
         }
         let lease = drawn(&mut random, clock);
-        let Ok(written) = journal.append(clock, &table, lease) else {
+        let Ok(written) = server.journal.append(clock, &server.table, lease) else {
             return Err("an append is refused".into());
         };
-        let chance = if written.count > 1 { 2 } else { 300 };
+        let chance = if begins_row(written) { 2 } else { 90 };
         if draw(&mut random, chance) == 0 {
-            cut(&mut image, &journal, written, &mut random);
-            journal = opened(heap, &image)?;
-            let found = journal.recover(&mut table);
-            show(rt, step, found, &image, &table)?;
+            server.crash(heap, clock, written, lease, &mut random)?;
+            // down for so long that nothing is live any more
+            if draw(&mut random, 3) == 0 {
+                clock += 100;
+            }
         } else {
-            for j in 0..written.count {
-                if written.first <= 8192 && j < 8192 {
-                    persist(&mut image, &journal, written.first + j, 28);
-                }
-            }
-            let at = usize::from(lease.address);
-            if at < table.len() {
-                table[at] = Some(lease);
-            }
-            if written.count > 1 {
-                show(rt, step, journal.found(), &image, &table)?;
-            }
+            server.answer(written, lease);
+        }
+        if step % 100_000 == 0 {
+            show_tally(rt, step, &server.tally, &server.image)?;
         }
     }
     Ok(())
