@@ -45,7 +45,7 @@ use Rattle.server.proofs.Answering.{answer-same, serverAt}
 use Rattle.server.proofs.Exact.{Exactly, keptIn, leaves, sound-left, whole-cut, with?}
 
 -- with no table there are no leases
-pooled-none : (n : ℕ) (d : Device) → isFound (chosen 4096 d) ≡ false → pooled n d ≡ empty
+pub pooled-none : (n : ℕ) (d : Device) → isFound (chosen 4096 d) ≡ false → pooled n d ≡ empty
 pooled-none n d e = fun-ext (λ a. cond-both (ltb a n) (leases 4096 d a) None (λ q. q ≡ None) (λ l. none-at 4096 d (chosen 4096 d) e a) (λ l. refl))
 
 lost-unfound : (c : Choice) → isLost c ≡ true → isFound c ≡ false
