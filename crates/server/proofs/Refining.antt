@@ -40,7 +40,7 @@ use Rattle.journal.proofs.Appends.{append-stands}
 use Rattle.journal.proofs.Runs.{filed-at, none-at}
 use Rattle.server.specs.declared.effect.Effect.{Effect}
 use Rattle.server.specs.Server.{State, Step, answers, appends, comesBack, does, grants, hears, isLost, learns, leaseOf, planned, pooled, reads, refuses, replies, requested, rereads, restarted, settles, silently, tells, ticks, understood, withServer}
-use Rattle.server.specs.Refines.{CutRefines, Embeds, Event, Crashes, Forgets, Hears, HearsAndCrashes, Passes, Restarts, Cause, Asking, Other, Time, EventsOfRuns, Refines, SettlingStands, Stands, StepRefines, downWith, grantBy, grantsIn, modelOf, occur, occurs, causeIn, sent}
+use Rattle.server.specs.Refines.{CutRefines, Embeds, Event, Crashes, Forgets, Hears, HearsAndCrashes, Passes, Restarts, Cause, Asking, Falling, Other, Rising, Time, EventsOfRuns, Refines, SettlingStands, Stands, StepRefines, downWith, grantBy, grantsIn, modelOf, occur, occurs, causeIn, sent}
 use Rattle.server.proofs.Answering.{answer-same, serverAt}
 use Rattle.server.proofs.Exact.{Exactly, keptIn, leaves, sound-left, whole-cut, with?}
 
@@ -101,8 +101,8 @@ module _ (k : model.Settings) (s : State) (few : k .addresses < 4096) (sound : S
   abbrev has : world.Server → State
   has y = record { settings = Some k; server = y; device = d; cursor = cursor 4096 d }
 
-  pub read-refines : (o : Cause) → Refines k s (reads k clock s .state) (grantsIn (reads k clock s .effects)) o
-  read-refines o =
+  pub read-refines : Refines k s (reads k clock s .state) (grantsIn (reads k clock s .effects)) (Rising clock)
+  read-refines =
       let b : Bool = isLost (chosen 4096 d) || isSilent (s .server .silent) in
       let none : b ≡ true → isFound (chosen 4096 d) ≡ false =
       λ e. elim (or-cases (isLost (chosen 4096 d)) (isSilent (s .server .silent)) e) [ inl h ↦ lost-unfound (chosen 4096 d) h | inr h ↦ lost h ] in
@@ -110,7 +110,7 @@ module _ (k : model.Settings) (s : State) (few : k .addresses < 4096) (sound : S
       let y : world.Server = record { clock = clock; up = true; silent = None; table = pooled (k .addresses) d } in
       record {
         events = Restarts clock (isLost (chosen 4096 d)) ∷ [];
-        heard = (tt, tt);
+        heard = (refl, tt);
         state = cond-both b x y (λ z. modelOf k (has z) ≡ z) (λ e. ap (λ (t : Table). record { clock = clock; up = true; silent = Some (clock + model.silence k); table = t }) (pooled-none (k .addresses) d (none e))) (λ e. refl);
         sends = tells-nobody (rereads k clock d (s .server) .silent);
         stands = cond-both b x y (λ z. Stands k (has z))
@@ -120,8 +120,8 @@ module _ (k : model.Settings) (s : State) (few : k .addresses < 4096) (sound : S
 
 pub settling-stands : SettlingStands
 settling-stands k s few sound quiet =
-    cond-both (s .server .up) (reads k (s .server .clock) s) (silently (record { settings = Some k; server = s .server; device = s .device; cursor = s .cursor })) (λ t. Refines k s (t .state) (grantsIn (t .effects)) Other)
-    (λ e. read-refines k s few sound (λ h. absurd (not-silent (s .server .silent) quiet h)) (s .server .clock) Other)
+    cond-both (s .server .up) (reads k (s .server .clock) s) (silently (record { settings = Some k; server = s .server; device = s .device; cursor = s .cursor })) (λ t. Refines k s (t .state) (grantsIn (t .effects)) (Rising (s .server .clock)))
+    (λ e. read-refines k s few sound (λ h. absurd (not-silent (s .server .silent) quiet h)) (s .server .clock))
     (λ e. record {
       events = [];
       heard = tt;
@@ -232,19 +232,19 @@ module _ (k : model.Settings) (s : State) (st : Stands k s) where
   ticked : Refines k s (withServer (serverPasses 1 v) s) [] Time
   ticked = record { events = Passes 1 ∷ []; heard = ((refl, refl), tt); state = ticks-on; sends = refl; stands = tick-stands }
 
-  crashed : Refines k s (withServer (crashes v) s) [] Other
+  crashed : Refines k s (withServer (crashes v) s) [] Falling
   crashed =
       record {
         events = Crashes ∷ [];
-        heard = (tt, tt);
+        heard = (refl, tt);
         state = refl;
         sends = refl;
         stands = record { settled = st .settled; few = st .few; sound = st .sound; ready = λ u. absurd (both-ways _ refl u); lost = st .lost };
       }
 
-  came-back : (clock : ℕ) → Refines k s (comesBack (s .settings) clock s .state) (grantsIn (comesBack (s .settings) clock s .effects)) Other
+  came-back : (clock : ℕ) → Refines k s (comesBack (s .settings) clock s .state) (grantsIn (comesBack (s .settings) clock s .effects)) (Rising clock)
   came-back clock =
-      subst (λ (o : Option model.Settings). Refines k s (comesBack o clock s .state) (grantsIn (comesBack o clock s .effects)) Other) (sym (st .settled)) (read-refines k s (st .few) (st .sound) (st .lost) clock Other)
+      subst (λ (o : Option model.Settings). Refines k s (comesBack o clock s .state) (grantsIn (comesBack o clock s .effects)) (Rising clock)) (sym (st .settled)) (read-refines k s (st .few) (st .sound) (st .lost) clock)
 
   -- A REQUEST
   module _ (r : asked.Request) (g : given.Grant) (ans : answer k v r ≡ Granted g) where
@@ -396,8 +396,8 @@ module _ (k : model.Settings) (s : State) (st : Stands k s) where
       (λ h. unchanged Time) (λ h. ticked)
   refines (Ok Crash) = crashed
   refines (Ok (Restart clock)) =
-      cond-both (leb (2 ^ 63) clock) (refuses CountExhausted s) (comesBack (s .settings) clock s) (λ t. Refines k s (t .state) (grantsIn (t .effects)) Other)
-      (λ h. unchanged Other) (λ h. came-back clock)
+      cond-both (leb (2 ^ 63) clock) (refuses CountExhausted s) (comesBack (s .settings) clock s) (λ t. Refines k s (t .state) (grantsIn (t .effects)) (Rising clock))
+      (λ h. unchanged (Rising clock)) (λ h. came-back clock)
   refines (Ok (OwnNumber c)) = unchanged Other
   refines (Ok (Nonce c)) = unchanged Other
   refines (Ok (InUse a u)) = unchanged Other

@@ -115,10 +115,12 @@ grantsIn [] = []
 grantsIn (Persist f n ∷ es) = grantsIn es
 grantsIn (Send m ∷ es) = grantOf m ++ grantsIn es
 
--- what a message can make happen: time, a request, or neither
+-- what a message can make happen: a tick, a request, a crash, a restart with a clock, or nothing
 pub data Cause : Type 0 where
   Time : Cause
   Asking : asked.Request → Cause
+  Falling : Cause
+  Rising : (clock : ℕ) → Cause
   Other : Cause
 
 abbrev pub causeIn : Answer → Cause
@@ -126,8 +128,8 @@ causeIn (Ok (Request r)) = Asking r
 causeIn (Ok (Grant g)) = Other
 causeIn (Ok (Settings n t e)) = Other
 causeIn (Ok Tick) = Time
-causeIn (Ok Crash) = Other
-causeIn (Ok (Restart clock)) = Other
+causeIn (Ok Crash) = Falling
+causeIn (Ok (Restart clock)) = Rising clock
 causeIn (Ok (OwnNumber n)) = Other
 causeIn (Ok (Nonce n)) = Other
 causeIn (Ok (InUse a u)) = Other
@@ -139,11 +141,11 @@ abbrev pub From : Cause → Event → Type 0
 From o (Passes n) = (o ≡ Time) × (n ≡ 1)
 From o (Hears r) = o ≡ Asking r
 From o (HearsAndCrashes r wrote) = o ≡ Asking r
-From o Crashes = Unit {0}
+From o Crashes = o ≡ Falling
 From o (Forgets gone) = Unit {0}
-From o (Restarts clock lost) = Unit {0}
+From o (Restarts clock lost) = o ≡ Rising clock
 
--- time passes and requests are heard for that cause alone
+-- each event has that cause; what is over may be forgotten at any time
 abbrev pub AllFrom : Cause → List Event → Type 0
 AllFrom o [] = Unit {0}
 AllFrom o (e ∷ es) = From o e × AllFrom o es
@@ -174,4 +176,4 @@ CutRefines =
 abbrev pub SettlingStands : Type 0
 SettlingStands =
     (k : model.Settings) (s : State) → k .addresses < 4096 → Sound 4096 (s .device) → s .server .silent ≡ None →
-    Refines k s (settles k s .state) (grantsIn (settles k s .effects)) Other
+    Refines k s (settles k s .state) (grantsIn (settles k s .effects)) (Rising (s .server .clock))
