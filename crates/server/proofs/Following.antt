@@ -1,16 +1,15 @@
 -- The server goes on with a run of the lending core.
 -- Assumes nothing.
 use mathlib.Core.Path.{_≡_, refl, sym, ap, subst, _∙_}
-use mathlib.Core.Bool.{Bool, true, false, cond, _||_}
+use mathlib.Core.Bool.{Bool, true, false, _||_}
 use mathlib.Core.Logic.{inl}
 use mathlib.Core.List.{List, [], _∷_, _++_, append-assoc}
-use Prim.Native.Nat.{ℕ, zero, suc, _+_, _^_, _<_}
+use Prim.Native.Nat.{ℕ, suc, _+_, _^_}
 use native.Mathlib.Omega.{arith}
 use lib.Dec.{leb}
 use Rattle.std.proofs.shelf.Tests.{cond-false, lt-leb}
 use Rattle.std.specs.declared.option.Option.{Option}
 use Rattle.std.specs.declared.option.Option.the-variants.{Some, None}
-use Rattle.std.specs.declared.result.Result.the-variants.{Ok}
 use Rattle.lease.specs.declared.answer.Answer as lent
 use Rattle.lease.specs.declared.answer.Answer.the-variants.{Unheard, Granted, Refused}
 use Rattle.lease.specs.declared.fault.Fault.the-variants.{CountExhausted}
@@ -21,16 +20,13 @@ use Rattle.lease.specs.World as world
 use Rattle.lease.specs.Run as run
 use Rattle.lease.specs.Run.{answer, serverPasses}
 use Rattle.lease.proofs.Promise.{never-two}
-use Rattle.wire.specs.declared.message.Message.the-variants.{Tick}
 use Rattle.wire.specs.Decode.{Answer}
 use Rattle.lease.specs.Table.{Table, empty}
 use Rattle.lease.specs.World.{isSilent}
 use Rattle.journal.specs.Device.{Choice, New, chosen, cursor, isFound}
 use Rattle.journal.proofs.Choosing.{choice-tells}
-use Rattle.journal.specs.Append.{writes}
-use Rattle.journal.specs.Crash.{Cut, cutAt}
-use Rattle.server.specs.Server.{State, Step, answers, fresh, hears, isLost, leaseOf, planned, pooled, refuses, silently, understood, withServer}
-use Rattle.server.specs.Refines.{AllFrom, Asking, Cause, Crashes, Embeds, Event, Forgets, From, Hears, HearsAndCrashes, Passes, Refines, Restarts, Stands, Time, causeIn, downWith, grantBy, grantsIn, modelOf, occur, occurs, sends, sent}
+use Rattle.server.specs.Server.{State, Step, answers, fresh, hears, isLost, pooled, refuses, silently, understood, withServer}
+use Rattle.server.specs.Refines.{AllFrom, Asking, Cause, Crashes, Embeds, Event, Forgets, Hears, HearsAndCrashes, Passes, Refines, Restarts, Time, causeIn, grantBy, modelOf, occur, occurs, sends, sent}
 use Rattle.server.specs.Follows.{Begins, Follows, GoesOn, NoTwo, RunGoesOn, RunIsCut, RunTicks, Sent, sentOn}
 use Rattle.server.proofs.Refining.{cut-refines-all, events-of-runs, pooled-none, settling-stands, step-refines, tick-stands, ticks-on}
 

@@ -2,8 +2,8 @@
 -- Assumes nothing.
 use mathlib.Core.Path.{_≡_, refl, sym, ap, subst, fun-ext, _∙_}
 use mathlib.Core.Bool.{Bool, true, false, cond, _||_, _&&_, not}
-use mathlib.Core.Logic.{_⊎_, inl, inr}
-use mathlib.Core.List.{List, [], _∷_, _++_}
+use mathlib.Core.Logic.{inl, inr}
+use mathlib.Core.List.{[], _∷_, _++_}
 use Prim.Native.Nat.{ℕ, _+_, _^_, _<_, _≤_}
 use native.Mathlib.Omega.{arith}
 use lib.Dec.{eqb, leb, ltb}
@@ -30,17 +30,16 @@ use Rattle.lease.proofs.Choosing.{laws}
 use Rattle.wire.specs.declared.message.Message.{Message}
 use Rattle.wire.specs.declared.message.Message.the-variants.{Request, Grant, Settings, Tick, Crash, Restart, OwnNumber, Nonce, InUse, NoAddress, Fault}
 use Rattle.wire.specs.Decode.{Answer}
-use Rattle.journal.specs.Table.{Agree, keptOf, set}
+use Rattle.journal.specs.Table.{keptOf, set}
 use Rattle.journal.specs.Device.{Device, Choice, New, Lost, Found, chosen, Cursor, cursor, isFound, leases}
-use Rattle.journal.specs.Append.{Plan, after, exhausted, perform, plan, writes}
+use Rattle.journal.specs.Append.{Plan, after, exhausted, perform, writes}
 use Rattle.journal.specs.Crash.{Cut, Untouched, cutAt, lands}
 use Rattle.journal.specs.Laws.{Ready, Sound}
 use Rattle.journal.proofs.Tables.{agree-later, filed-empty}
 use Rattle.journal.proofs.Appends.{append-stands}
 use Rattle.journal.proofs.Runs.{filed-at, none-at}
-use Rattle.server.specs.declared.effect.Effect.{Effect}
-use Rattle.server.specs.Server.{State, Step, answers, appends, comesBack, does, grants, hears, isLost, learns, leaseOf, planned, pooled, reads, refuses, replies, requested, rereads, restarted, settles, silently, tells, ticks, understood, withServer}
-use Rattle.server.specs.Refines.{CutRefines, Embeds, Event, Crashes, Forgets, Hears, HearsAndCrashes, Passes, Restarts, Cause, Asking, Falling, Other, Rising, Time, EventsOfRuns, Refines, SettlingStands, Stands, StepRefines, downWith, grantBy, grantsIn, modelOf, occur, occurs, causeIn, sent}
+use Rattle.server.specs.Server.{State, answers, appends, comesBack, hears, isLost, learns, leaseOf, planned, pooled, reads, refuses, replies, requested, rereads, silently, tells, understood, withServer}
+use Rattle.server.specs.Refines.{CutRefines, Crashes, Forgets, Hears, HearsAndCrashes, Passes, Restarts, Cause, Asking, Falling, Other, Rising, Time, EventsOfRuns, Refines, SettlingStands, Stands, StepRefines, downWith, grantBy, grantsIn, modelOf, occurs, causeIn, sent}
 use Rattle.server.proofs.Answering.{answer-same, serverAt}
 use Rattle.server.proofs.Exact.{Exactly, keptIn, leaves, sound-left, whole-cut, with?}
 

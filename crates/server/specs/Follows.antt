@@ -20,7 +20,7 @@ use Rattle.journal.specs.Device.{Cursor, Device, Side}
 use Rattle.journal.specs.Append.{writes}
 use Rattle.journal.specs.Crash.{Cut, cutAt}
 use Rattle.server.specs.Server.{State, fresh, hears, leaseOf, planned, settles, understood}
-use Rattle.server.specs.Refines.{Asking, Cause, Stands, Time, causeIn, downWith, grantsIn, modelOf}
+use Rattle.server.specs.Refines.{Asking, Stands, Time, causeIn, downWith, grantsIn, modelOf}
 
 -- events the latest first
 pub record Follows (k : model.Settings) (es : List run.Event) (s : State) : Type 0 where

@@ -4,8 +4,6 @@ use mathlib.Core.Path.{_≡_}
 use mathlib.Core.Bool.{Bool, true, false, cond}
 use mathlib.Core.List.{List, [], _∷_, _++_}
 use Prim.Native.Nat.{ℕ, _<_}
-use lib.ListN.{length}
-use Rattle.std.specs.declared.option.Option.{Option}
 use Rattle.std.specs.declared.option.Option.the-variants.{Some, None}
 use Rattle.std.specs.declared.result.Result.the-variants.{Ok, Err}
 use Rattle.lease.specs.declared.answer.Answer as lent
@@ -21,12 +19,12 @@ use Rattle.wire.specs.Decode.{Answer}
 use Rattle.wire.specs.declared.message.Message.{Message}
 use Rattle.wire.specs.declared.message.Message.the-variants.{Request, Grant, Settings, Tick, Crash, Restart, OwnNumber, Nonce, InUse, NoAddress, Fault}
 use Rattle.journal.specs.Device.{Device, chosen, isFound}
-use Rattle.journal.specs.Append.{exhausted, writes}
-use Rattle.journal.specs.Crash.{Cut, cutAt, lands}
+use Rattle.journal.specs.Append.{writes}
+use Rattle.journal.specs.Crash.{Cut, cutAt}
 use Rattle.journal.specs.Laws.{Ready, Sound}
 use Rattle.server.specs.declared.effect.Effect.{Effect}
 use Rattle.server.specs.declared.effect.Effect.the-variants.{Persist, Send}
-use Rattle.server.specs.Server.{State, Step, hears, leaseOf, planned, pooled, settles, understood}
+use Rattle.server.specs.Server.{State, hears, leaseOf, planned, pooled, settles, understood}
 
 -- the server of the lending core: its table is what the device has of the pool, whatever of it is in memory
 abbrev pub modelOf : model.Settings → State → world.Server
