@@ -9,7 +9,6 @@ use lib.Dec.{eqb, ltb}
 use Rattle.std.proofs.shelf.Tests.{and-right, cases-bool, cond-both, ltb-true, not-from-false, or-right}
 use Rattle.std.specs.declared.option.Option.{Option}
 use Rattle.std.specs.declared.option.Option.the-variants.{Some, None}
-use Rattle.lease.specs.declared.answer.Answer.{Answer}
 use Rattle.lease.specs.declared.lease.Lease.{Lease}
 use Rattle.lease.specs.declared.message.Request.{Request}
 use Rattle.lease.specs.Settings.{Settings}

@@ -6,26 +6,26 @@ use mathlib.Core.Logic.{_⊎_, inl, inr}
 use mathlib.Core.List.{List, [], _∷_, _++_}
 use Prim.Native.Nat.{ℕ, zero, suc, _+_, _<_, _≤_, min}
 use native.Mathlib.Omega.{arith}
-use lib.Dec.{eqb, leb, ltb}
+use lib.Dec.{eqb, ltb}
 use lib.ListN.{length, take, length-append}
 use Rattle.std.proofs.shelf.Lists.{take-all, take-at}
-use Rattle.std.proofs.shelf.Tests.{both-ways, cases-bool, cases-eq, cases-lt, cond-both, cond-false, cond-true, le-leb, leb-false, leb-true, ltb-false}
+use Rattle.std.proofs.shelf.Tests.{both-ways, cases-bool, cases-eq, cases-lt, cond-false, cond-true, le-leb, leb-false, leb-true, ltb-false}
 use Rattle.std.specs.declared.option.Option.{Option}
 use Rattle.std.specs.declared.option.Option.the-variants.{Some, None}
 use Rattle.lease.specs.declared.lease.Lease.{Lease}
 use Rattle.journal.specs.Place.{height}
-use Rattle.journal.specs.Table.{Table, Agree, Filed, added, empty, keeping, kept, keptOf, set}
+use Rattle.journal.specs.Table.{Table, Filed, added, empty, keeping, kept, keptOf, set}
 use Rattle.journal.specs.Row.{Row, first, tableOf, whole}
-use Rattle.journal.specs.Device.{Side, Device, Cursor, chosen, cursor, fresh, high, isFound, leases, other}
+use Rattle.journal.specs.Device.{Side, Device, Cursor, cursor, high, leases, other}
 use Rattle.journal.specs.Append.{Plan, Write, inOther, inRow, perform, plan, put, writes}
 use Rattle.journal.specs.Crash.{Cut, Damaged, Untouched, cutAt, done, lands}
-use Rattle.journal.specs.Laws.{Begun, Ready, Settled, Sound, Survives}
+use Rattle.journal.specs.Laws.{Begun, Ready, Settled, Sound}
 use Rattle.journal.proofs.Tables.{keeping-agrees, keeping-none, kept-some, laid, laid-push, length-keeping}
 use Rattle.journal.proofs.Reading.{begun-broken, none-read}
-use Rattle.journal.proofs.Choosing.{below-high, damaged-cursor, damaged-found, damaged-leases, settled-cursor, settled-leases, unbegun}
+use Rattle.journal.proofs.Choosing.{below-high, damaged-found, damaged-leases, settled-cursor, settled-leases, unbegun}
 use Rattle.journal.proofs.Progress.{Progress, cut, length-numbered}
 use Rattle.journal.proofs.Appends.{append-survives}
-use Rattle.journal.proofs.Runs.{none-at, reread}
+use Rattle.journal.proofs.Runs.{reread}
 
 pub kept-all : (e : Option Lease) → keptOf 0 e ≡ e
 kept-all None = refl

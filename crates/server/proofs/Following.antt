@@ -1,15 +1,15 @@
 -- The server goes on with a run of the lending core.
 -- Assumes nothing.
 use mathlib.Core.Path.{_≡_, refl, sym, ap, subst, _∙_}
-use mathlib.Core.Bool.{Bool, cond}
+use mathlib.Core.Bool.{Bool, true, false, _||_}
+use mathlib.Core.Logic.{inl}
 use mathlib.Core.List.{List, [], _∷_, _++_, append-assoc}
-use Prim.Native.Nat.{ℕ, zero, suc, _+_, _^_, _<_}
+use Prim.Native.Nat.{ℕ, suc, _+_, _^_}
 use native.Mathlib.Omega.{arith}
 use lib.Dec.{leb}
 use Rattle.std.proofs.shelf.Tests.{cond-false, lt-leb}
 use Rattle.std.specs.declared.option.Option.{Option}
 use Rattle.std.specs.declared.option.Option.the-variants.{Some, None}
-use Rattle.std.specs.declared.result.Result.the-variants.{Ok}
 use Rattle.lease.specs.declared.answer.Answer as lent
 use Rattle.lease.specs.declared.answer.Answer.the-variants.{Unheard, Granted, Refused}
 use Rattle.lease.specs.declared.fault.Fault.the-variants.{CountExhausted}
@@ -20,14 +20,15 @@ use Rattle.lease.specs.World as world
 use Rattle.lease.specs.Run as run
 use Rattle.lease.specs.Run.{answer, serverPasses}
 use Rattle.lease.proofs.Promise.{never-two}
-use Rattle.wire.specs.declared.message.Message.the-variants.{Tick}
 use Rattle.wire.specs.Decode.{Answer}
-use Rattle.journal.specs.Append.{writes}
-use Rattle.journal.specs.Crash.{Cut, cutAt}
-use Rattle.server.specs.Server.{State, Step, answers, hears, leaseOf, planned, refuses, silently, understood, withServer}
-use Rattle.server.specs.Refines.{AllFrom, Asking, Cause, Crashes, Embeds, Event, Forgets, From, Hears, HearsAndCrashes, Passes, Refines, Restarts, Stands, Time, causeIn, downWith, grantBy, grantsIn, modelOf, occur, occurs, sends, sent}
-use Rattle.server.specs.Follows.{Follows, GoesOn, NoTwo, RunGoesOn, RunIsCut, RunTicks, Sent, sentOn}
-use Rattle.server.proofs.Refining.{cut-refines-all, events-of-runs, step-refines, tick-stands, ticks-on}
+use Rattle.lease.specs.Table.{Table, empty}
+use Rattle.lease.specs.World.{isSilent}
+use Rattle.journal.specs.Device.{Choice, New, chosen, cursor, isFound}
+use Rattle.journal.proofs.Choosing.{choice-tells}
+use Rattle.server.specs.Server.{State, Step, answers, fresh, hears, isLost, pooled, refuses, silently, understood, withServer}
+use Rattle.server.specs.Refines.{AllFrom, Asking, Cause, Crashes, Embeds, Event, Forgets, Hears, HearsAndCrashes, Passes, Refines, Restarts, Time, causeIn, grantBy, modelOf, occur, occurs, sends, sent}
+use Rattle.server.specs.Follows.{Begins, Follows, GoesOn, NoTwo, RunGoesOn, RunIsCut, RunTicks, Sent, sentOn}
+use Rattle.server.proofs.Refining.{cut-refines-all, events-of-runs, pooled-none, settling-stands, step-refines, tick-stands, ticks-on}
 
 -- what was sent stays so
 still-sent : (i : ℕ) (m : world.Message) (a : lent.Answer) (ms : List world.Message) → world.sent i ms ≡ Some m → (j : ℕ) × (world.sent j (run.replies a ms) ≡ Some m)
@@ -128,10 +129,27 @@ run-is-cut k es s r g i c f was e =
 pub run-ticks : RunTicks
 unfolding hears run.world
 run-ticks k es s bs f w e l =
-    let b : leb (2 ^ 63) (s .server .clock + 1) ≡ Bool.false = lt-leb (2 ^ 63) (s .server .clock + 1) l in
+    let b : leb (2 ^ 63) (s .server .clock + 1) ≡ false = lt-leb (2 ^ 63) (s .server .clock + 1) l in
     let z : hears bs s ≡ silently (withServer (serverPasses 1 (s .server)) s) =
     ap (λ (a : Answer). answers a s) e ∙ cond-false (leb (2 ^ 63) (s .server .clock + 1)) (refuses CountExhausted s) (silently (withServer (serverPasses 1 (s .server)) s)) b in (
       subst (λ (t : Step). Follows k (run.Pass 1 f ∷ es) (t .state)) (sym z)
           (record { stands = tick-stands k s (w .stands); same = ap (serverPasses 1) (w .same) ∙ sym (ticks-on k s (w .stands)) }),
       no-two k (run.Pass 1 f ∷ es),
     )
+
+pub begins : Begins
+unfolding run.world
+begins k d c few h =
+    let new : chosen 4096 d ≡ New = choice-tells 4096 d .zeros h in
+    let none : isFound (chosen 4096 d) ≡ false = ap isFound new in
+    let b : Bool = isLost (chosen 4096 d) || isSilent None in
+    let e : b ≡ false = ap (λ (x : Choice). isLost x || isSilent None) new in
+    let x : world.Server = record { clock = 0; up = true; silent = Some (0 + model.silence k); table = empty } in
+    let y : world.Server = record { clock = 0; up = true; silent = None; table = pooled (k .addresses) d } in
+    record {
+      stands = settling-stands k (fresh d c) few (inl (choice-tells 4096 d .none none)) refl .stands;
+      same = sym (
+          ap (λ (z : world.Server). modelOf k (record { settings = Some k; server = z; device = d; cursor = cursor 4096 d })) (cond-false b x y e)
+          ∙ ap (λ (t : Table). record { clock = 0; up = true; silent = None; table = t }) (pooled-none (k .addresses) d none)
+          );
+    }

@@ -1,10 +1,9 @@
 -- What is made durable is what was written, and precedes the grant.
 -- Assumes nothing.
-use mathlib.Core.Path.{_≡_, refl, sym, ap, subst, _∙_}
-use mathlib.Core.Bool.{Bool, cond}
-use mathlib.Core.Logic.{_⊎_, inl, inr}
+use mathlib.Core.Path.{_≡_, refl, ap, subst, _∙_}
+use mathlib.Core.Logic.{inl, inr}
 use mathlib.Core.List.{List, [], _∷_, _++_}
-use Prim.Native.Nat.{ℕ, zero, suc, _+_, _^_}
+use Prim.Native.Nat.{ℕ, suc, _+_, _^_}
 use native.Mathlib.Omega.{arith}
 use lib.Dec.{leb}
 use lib.ListN.{length}
@@ -35,7 +34,7 @@ use Rattle.server.specs.declared.effect.Reply.the-variants as reply
 use Rattle.server.specs.declared.effect.Reply.the-variants.{Nothing}
 use Rattle.server.specs.Reply.{effectsOf}
 use Rattle.server.specs.Steps.{FiledBy}
-use Rattle.server.specs.Orderly.{FileBy, Grants, Orderly, StepsOrderly, WritesNothing, persisted, upFrom, written}
+use Rattle.server.specs.Orderly.{FileBy, Grants, Orderly, StepsOrderly, persisted, upFrom, written}
 
 next-place : (s : Side) (k : ℕ) → suc (index s k) ≡ index s (suc k)
 next-place Row0 k = refl

@@ -1,12 +1,12 @@
 -- What a reading of the device leaves.
 -- Assumes nothing.
-use mathlib.Core.Path.{_≡_, refl, sym, ap, ap₂, subst, fun-ext, _∙_}
-use mathlib.Core.Bool.{Bool, true, false, cond}
+use mathlib.Core.Path.{_≡_, refl, sym, ap, fun-ext, _∙_}
+use mathlib.Core.Bool.{Bool}
 use mathlib.Core.Logic.{inl, inr}
 use mathlib.Core.List.{List}
 use Prim.Native.Nat.{ℕ, _<_}
 use native.Mathlib.Omega.{arith}
-use lib.Dec.{ltb, eqb}
+use lib.Dec.{ltb}
 use lib.ListN.{length, getD}
 use Rattle.std.proofs.shelf.Tests.{cases-lt, cond-true, cond-false, eq-eqb, le-ltb, lt-ltb}
 use Rattle.std.specs.Of.Vec.{vec-items}
@@ -24,7 +24,7 @@ use Rattle.lease.specs.Stands.{serverOf, withTable, KeeperLoaded, KeeperRestart
 use Rattle.journal.specs.declared.journal.Journal.{Journal}
 use Rattle.journal.specs.declared.state.Found.{Found}
 use Rattle.journal.specs.declared.state.Found.the-variants as found
-use Rattle.journal.specs.Device.{Device, Choice, chosen, cursor, leases}
+use Rattle.journal.specs.Device.{Device, chosen, cursor, leases}
 use Rattle.journal.specs.Image.{Recovered, choiceFrom, deviceOf}
 use Rattle.journal.proofs.Runs.{filed-at}
 use Rattle.server.specs.declared.effect.Reply.{Reply}

@@ -2,8 +2,8 @@
 -- Assumes nothing.
 use mathlib.Core.Path.{_≡_, refl, sym, ap, subst, fun-ext, _∙_}
 use mathlib.Core.Bool.{Bool, true, false, cond, _||_, _&&_, not}
-use mathlib.Core.Logic.{_⊎_, inl, inr}
-use mathlib.Core.List.{List, [], _∷_, _++_}
+use mathlib.Core.Logic.{inl, inr}
+use mathlib.Core.List.{[], _∷_, _++_}
 use Prim.Native.Nat.{ℕ, _+_, _^_, _<_, _≤_}
 use native.Mathlib.Omega.{arith}
 use lib.Dec.{eqb, leb, ltb}
@@ -30,22 +30,21 @@ use Rattle.lease.proofs.Choosing.{laws}
 use Rattle.wire.specs.declared.message.Message.{Message}
 use Rattle.wire.specs.declared.message.Message.the-variants.{Request, Grant, Settings, Tick, Crash, Restart, OwnNumber, Nonce, InUse, NoAddress, Fault}
 use Rattle.wire.specs.Decode.{Answer}
-use Rattle.journal.specs.Table.{Agree, keptOf, set}
+use Rattle.journal.specs.Table.{keptOf, set}
 use Rattle.journal.specs.Device.{Device, Choice, New, Lost, Found, chosen, Cursor, cursor, isFound, leases}
-use Rattle.journal.specs.Append.{Plan, after, exhausted, perform, plan, writes}
+use Rattle.journal.specs.Append.{Plan, after, exhausted, perform, writes}
 use Rattle.journal.specs.Crash.{Cut, Untouched, cutAt, lands}
 use Rattle.journal.specs.Laws.{Ready, Sound}
 use Rattle.journal.proofs.Tables.{agree-later, filed-empty}
 use Rattle.journal.proofs.Appends.{append-stands}
 use Rattle.journal.proofs.Runs.{filed-at, none-at}
-use Rattle.server.specs.declared.effect.Effect.{Effect}
-use Rattle.server.specs.Server.{State, Step, answers, appends, comesBack, does, grants, hears, isLost, learns, leaseOf, planned, pooled, reads, refuses, replies, requested, rereads, restarted, settles, silently, tells, ticks, understood, withServer}
-use Rattle.server.specs.Refines.{CutRefines, Embeds, Event, Crashes, Forgets, Hears, HearsAndCrashes, Passes, Restarts, Cause, Asking, Other, Time, EventsOfRuns, Refines, SettlingStands, Stands, StepRefines, downWith, grantBy, grantsIn, modelOf, occur, occurs, causeIn, sent}
+use Rattle.server.specs.Server.{State, answers, appends, comesBack, hears, isLost, learns, leaseOf, planned, pooled, reads, refuses, replies, requested, rereads, silently, tells, understood, withServer}
+use Rattle.server.specs.Refines.{CutRefines, Crashes, Forgets, Hears, HearsAndCrashes, Passes, Restarts, Cause, Asking, Falling, Other, Rising, Time, EventsOfRuns, Refines, SettlingStands, Stands, StepRefines, downWith, grantBy, grantsIn, modelOf, occurs, causeIn, sent}
 use Rattle.server.proofs.Answering.{answer-same, serverAt}
 use Rattle.server.proofs.Exact.{Exactly, keptIn, leaves, sound-left, whole-cut, with?}
 
 -- with no table there are no leases
-pooled-none : (n : ℕ) (d : Device) → isFound (chosen 4096 d) ≡ false → pooled n d ≡ empty
+pub pooled-none : (n : ℕ) (d : Device) → isFound (chosen 4096 d) ≡ false → pooled n d ≡ empty
 pooled-none n d e = fun-ext (λ a. cond-both (ltb a n) (leases 4096 d a) None (λ q. q ≡ None) (λ l. none-at 4096 d (chosen 4096 d) e a) (λ l. refl))
 
 lost-unfound : (c : Choice) → isLost c ≡ true → isFound c ≡ false
@@ -101,8 +100,8 @@ module _ (k : model.Settings) (s : State) (few : k .addresses < 4096) (sound : S
   abbrev has : world.Server → State
   has y = record { settings = Some k; server = y; device = d; cursor = cursor 4096 d }
 
-  pub read-refines : (o : Cause) → Refines k s (reads k clock s .state) (grantsIn (reads k clock s .effects)) o
-  read-refines o =
+  pub read-refines : Refines k s (reads k clock s .state) (grantsIn (reads k clock s .effects)) (Rising clock)
+  read-refines =
       let b : Bool = isLost (chosen 4096 d) || isSilent (s .server .silent) in
       let none : b ≡ true → isFound (chosen 4096 d) ≡ false =
       λ e. elim (or-cases (isLost (chosen 4096 d)) (isSilent (s .server .silent)) e) [ inl h ↦ lost-unfound (chosen 4096 d) h | inr h ↦ lost h ] in
@@ -110,7 +109,7 @@ module _ (k : model.Settings) (s : State) (few : k .addresses < 4096) (sound : S
       let y : world.Server = record { clock = clock; up = true; silent = None; table = pooled (k .addresses) d } in
       record {
         events = Restarts clock (isLost (chosen 4096 d)) ∷ [];
-        heard = (tt, tt);
+        heard = (refl, tt);
         state = cond-both b x y (λ z. modelOf k (has z) ≡ z) (λ e. ap (λ (t : Table). record { clock = clock; up = true; silent = Some (clock + model.silence k); table = t }) (pooled-none (k .addresses) d (none e))) (λ e. refl);
         sends = tells-nobody (rereads k clock d (s .server) .silent);
         stands = cond-both b x y (λ z. Stands k (has z))
@@ -120,8 +119,8 @@ module _ (k : model.Settings) (s : State) (few : k .addresses < 4096) (sound : S
 
 pub settling-stands : SettlingStands
 settling-stands k s few sound quiet =
-    cond-both (s .server .up) (reads k (s .server .clock) s) (silently (record { settings = Some k; server = s .server; device = s .device; cursor = s .cursor })) (λ t. Refines k s (t .state) (grantsIn (t .effects)) Other)
-    (λ e. read-refines k s few sound (λ h. absurd (not-silent (s .server .silent) quiet h)) (s .server .clock) Other)
+    cond-both (s .server .up) (reads k (s .server .clock) s) (silently (record { settings = Some k; server = s .server; device = s .device; cursor = s .cursor })) (λ t. Refines k s (t .state) (grantsIn (t .effects)) (Rising (s .server .clock)))
+    (λ e. read-refines k s few sound (λ h. absurd (not-silent (s .server .silent) quiet h)) (s .server .clock))
     (λ e. record {
       events = [];
       heard = tt;
@@ -232,19 +231,19 @@ module _ (k : model.Settings) (s : State) (st : Stands k s) where
   ticked : Refines k s (withServer (serverPasses 1 v) s) [] Time
   ticked = record { events = Passes 1 ∷ []; heard = ((refl, refl), tt); state = ticks-on; sends = refl; stands = tick-stands }
 
-  crashed : Refines k s (withServer (crashes v) s) [] Other
+  crashed : Refines k s (withServer (crashes v) s) [] Falling
   crashed =
       record {
         events = Crashes ∷ [];
-        heard = (tt, tt);
+        heard = (refl, tt);
         state = refl;
         sends = refl;
         stands = record { settled = st .settled; few = st .few; sound = st .sound; ready = λ u. absurd (both-ways _ refl u); lost = st .lost };
       }
 
-  came-back : (clock : ℕ) → Refines k s (comesBack (s .settings) clock s .state) (grantsIn (comesBack (s .settings) clock s .effects)) Other
+  came-back : (clock : ℕ) → Refines k s (comesBack (s .settings) clock s .state) (grantsIn (comesBack (s .settings) clock s .effects)) (Rising clock)
   came-back clock =
-      subst (λ (o : Option model.Settings). Refines k s (comesBack o clock s .state) (grantsIn (comesBack o clock s .effects)) Other) (sym (st .settled)) (read-refines k s (st .few) (st .sound) (st .lost) clock Other)
+      subst (λ (o : Option model.Settings). Refines k s (comesBack o clock s .state) (grantsIn (comesBack o clock s .effects)) (Rising clock)) (sym (st .settled)) (read-refines k s (st .few) (st .sound) (st .lost) clock)
 
   -- A REQUEST
   module _ (r : asked.Request) (g : given.Grant) (ans : answer k v r ≡ Granted g) where
@@ -396,8 +395,8 @@ module _ (k : model.Settings) (s : State) (st : Stands k s) where
       (λ h. unchanged Time) (λ h. ticked)
   refines (Ok Crash) = crashed
   refines (Ok (Restart clock)) =
-      cond-both (leb (2 ^ 63) clock) (refuses CountExhausted s) (comesBack (s .settings) clock s) (λ t. Refines k s (t .state) (grantsIn (t .effects)) Other)
-      (λ h. unchanged Other) (λ h. came-back clock)
+      cond-both (leb (2 ^ 63) clock) (refuses CountExhausted s) (comesBack (s .settings) clock s) (λ t. Refines k s (t .state) (grantsIn (t .effects)) (Rising clock))
+      (λ h. unchanged (Rising clock)) (λ h. came-back clock)
   refines (Ok (OwnNumber c)) = unchanged Other
   refines (Ok (Nonce c)) = unchanged Other
   refines (Ok (InUse a u)) = unchanged Other

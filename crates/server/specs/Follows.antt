@@ -15,15 +15,23 @@ use Rattle.lease.specs.Run.{answer}
 use Rattle.lease.specs.Premise.{Agree}
 use Rattle.lease.specs.Promise.{Uses}
 use Rattle.wire.specs.declared.message.Message.the-variants.{Tick}
+use Rattle.journal.specs.Place.{Blank}
+use Rattle.journal.specs.Device.{Cursor, Device, Side}
 use Rattle.journal.specs.Append.{writes}
 use Rattle.journal.specs.Crash.{Cut, cutAt}
-use Rattle.server.specs.Server.{State, hears, leaseOf, planned, understood}
-use Rattle.server.specs.Refines.{Asking, Cause, Stands, Time, causeIn, downWith, grantsIn, modelOf}
+use Rattle.server.specs.Server.{State, fresh, hears, leaseOf, planned, settles, understood}
+use Rattle.server.specs.Refines.{Asking, Stands, Time, causeIn, downWith, grantsIn, modelOf}
 
 -- events the latest first
 pub record Follows (k : model.Settings) (es : List run.Event) (s : State) : Type 0 where
   pub stands : Stands k s
   pub same : run.world k es .server ≡ modelOf k s
+
+-- A NEW SERVER with a device of zeros begins one
+abbrev pub Begins : Type 0
+Begins =
+    (k : model.Settings) (d : Device) (c : Cursor) → k .addresses < 4096 → ((q : Side) (i : ℕ) → i < 4096 → d q i ≡ Blank) →
+    Follows k [] (settles k (fresh d c) .state)
 
 -- the request was sent in this run
 abbrev pub Sent : model.Settings → List run.Event → asked.Request → Type 0

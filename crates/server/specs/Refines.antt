@@ -4,8 +4,6 @@ use mathlib.Core.Path.{_≡_}
 use mathlib.Core.Bool.{Bool, true, false, cond}
 use mathlib.Core.List.{List, [], _∷_, _++_}
 use Prim.Native.Nat.{ℕ, _<_}
-use lib.ListN.{length}
-use Rattle.std.specs.declared.option.Option.{Option}
 use Rattle.std.specs.declared.option.Option.the-variants.{Some, None}
 use Rattle.std.specs.declared.result.Result.the-variants.{Ok, Err}
 use Rattle.lease.specs.declared.answer.Answer as lent
@@ -21,12 +19,12 @@ use Rattle.wire.specs.Decode.{Answer}
 use Rattle.wire.specs.declared.message.Message.{Message}
 use Rattle.wire.specs.declared.message.Message.the-variants.{Request, Grant, Settings, Tick, Crash, Restart, OwnNumber, Nonce, InUse, NoAddress, Fault}
 use Rattle.journal.specs.Device.{Device, chosen, isFound}
-use Rattle.journal.specs.Append.{exhausted, writes}
-use Rattle.journal.specs.Crash.{Cut, cutAt, lands}
+use Rattle.journal.specs.Append.{writes}
+use Rattle.journal.specs.Crash.{Cut, cutAt}
 use Rattle.journal.specs.Laws.{Ready, Sound}
 use Rattle.server.specs.declared.effect.Effect.{Effect}
 use Rattle.server.specs.declared.effect.Effect.the-variants.{Persist, Send}
-use Rattle.server.specs.Server.{State, Step, hears, leaseOf, planned, pooled, settles, understood}
+use Rattle.server.specs.Server.{State, hears, leaseOf, planned, pooled, settles, understood}
 
 -- the server of the lending core: its table is what the device has of the pool, whatever of it is in memory
 abbrev pub modelOf : model.Settings → State → world.Server
@@ -115,10 +113,12 @@ grantsIn [] = []
 grantsIn (Persist f n ∷ es) = grantsIn es
 grantsIn (Send m ∷ es) = grantOf m ++ grantsIn es
 
--- what a message can make happen: time, a request, or neither
+-- what a message can make happen: a tick, a request, a crash, a restart with a clock, or nothing
 pub data Cause : Type 0 where
   Time : Cause
   Asking : asked.Request → Cause
+  Falling : Cause
+  Rising : (clock : ℕ) → Cause
   Other : Cause
 
 abbrev pub causeIn : Answer → Cause
@@ -126,8 +126,8 @@ causeIn (Ok (Request r)) = Asking r
 causeIn (Ok (Grant g)) = Other
 causeIn (Ok (Settings n t e)) = Other
 causeIn (Ok Tick) = Time
-causeIn (Ok Crash) = Other
-causeIn (Ok (Restart clock)) = Other
+causeIn (Ok Crash) = Falling
+causeIn (Ok (Restart clock)) = Rising clock
 causeIn (Ok (OwnNumber n)) = Other
 causeIn (Ok (Nonce n)) = Other
 causeIn (Ok (InUse a u)) = Other
@@ -139,11 +139,11 @@ abbrev pub From : Cause → Event → Type 0
 From o (Passes n) = (o ≡ Time) × (n ≡ 1)
 From o (Hears r) = o ≡ Asking r
 From o (HearsAndCrashes r wrote) = o ≡ Asking r
-From o Crashes = Unit {0}
+From o Crashes = o ≡ Falling
 From o (Forgets gone) = Unit {0}
-From o (Restarts clock lost) = Unit {0}
+From o (Restarts clock lost) = o ≡ Rising clock
 
--- time passes and requests are heard for that cause alone
+-- each event has that cause; what is over may be forgotten at any time
 abbrev pub AllFrom : Cause → List Event → Type 0
 AllFrom o [] = Unit {0}
 AllFrom o (e ∷ es) = From o e × AllFrom o es
@@ -174,4 +174,4 @@ CutRefines =
 abbrev pub SettlingStands : Type 0
 SettlingStands =
     (k : model.Settings) (s : State) → k .addresses < 4096 → Sound 4096 (s .device) → s .server .silent ≡ None →
-    Refines k s (settles k s .state) (grantsIn (settles k s .effects)) Other
+    Refines k s (settles k s .state) (grantsIn (settles k s .effects)) (Rising (s .server .clock))

@@ -20,7 +20,6 @@ use Rattle.lease.specs.Settings as model
 use Rattle.lease.specs.Settings.{life, valid}
 use Rattle.lease.specs.Table.{Table, empty, leased}
 use Rattle.lease.specs.World as world
-use Rattle.lease.specs.World.{isSilent}
 use Rattle.lease.specs.Run.{answer, crashes, lends, restarts, serverPasses}
 use Rattle.lease.specs.Stands.{withTable}
 use Rattle.wire.specs.declared.message.Message.{Message}

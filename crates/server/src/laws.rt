@@ -1,5 +1,5 @@
 // What holds of every step of a server, each statement on a contract.
-ghost use Rattle.server.specs.Follows.{RunGoesOn, RunIsCut, RunTicks};
+ghost use Rattle.server.specs.Follows.{Begins, RunGoesOn, RunIsCut, RunTicks};
 ghost use Rattle.server.specs.Orderly.{StepsOrderly};
 ghost use Rattle.server.specs.Refines.{CutRefines, EventsOfRuns, SettlingStands, StepRefines};
 
@@ -40,6 +40,7 @@ pub fn events_of_runs() -> u8
 
 // So a run of the lending core goes on with the server's steps, cut ones too, and no two clients ever use one address.
 pub fn runs_go_on() -> u8
+    ensures begins { λ _. ⌜ Begins ⌝ }
     ensures steps { λ _. ⌜ RunGoesOn ⌝ }
     ensures ticks { λ _. ⌜ RunTicks ⌝ }
     ensures cuts { λ _. ⌜ RunIsCut ⌝ }

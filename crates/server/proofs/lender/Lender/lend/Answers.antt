@@ -1,8 +1,7 @@
-use mathlib.Core.Path.{_≡_, refl, sym, ap, subst, _∙_}
+use mathlib.Core.Path.{_≡_, sym, ap, subst, _∙_}
 use mathlib.Core.List.{List}
 use Prim.Native.Nat.{ℕ}
 use borrow.Author.Needs.{needs}
-use native.Mathlib.Omega.{arith}
 use lib.ListN.{length}
 use Rattle.std.specs.Of.Vec.{vec-items}
 use Rattle.std.specs.declared.option.Option.{Option}
@@ -13,7 +12,7 @@ use Rattle.journal.specs.Durable.{CutFile}
 use Rattle.journal.specs.Image.{tableIn}
 use Rattle.journal.specs.Memory.{cursorOf}
 use Rattle.server.specs.Of.{lenderOf}
-use Rattle.server.specs.Server.{leaseOf, planned}
+use Rattle.server.specs.Server.{planned}
 use Rattle.server.proofs.lender.Lender.lend.Needs as need
 
 pub returns-in-Ok : need.returns-in-Ok

@@ -1,4 +1,4 @@
-use mathlib.Core.Path.{_≡_, refl, sym, subst}
+use mathlib.Core.Path.{refl, sym, subst}
 use Rattle.lease.specs.declared.answer.Answer.{Answer}
 use Rattle.lease.specs.declared.message.Request.{Request}
 use Rattle.lease.specs.Settings as model

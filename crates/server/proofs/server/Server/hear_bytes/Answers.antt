@@ -1,4 +1,4 @@
-use mathlib.Core.Path.{_≡_, refl, ap, subst, _∙_}
+use mathlib.Core.Path.{refl, ap, subst, _∙_}
 use mathlib.Core.List.{List, _++_}
 use Rattle.std.specs.Of.Vec.{vec-items}
 use Rattle.server.specs.declared.effect.Effect.{Effect}
