@@ -1,3 +1,5 @@
+#![tactic(auto)]
+
 // CRC-32C, the sum that tells a whole record from a torn one.
 ghost use Rattle.std.specs.Prelude.{◌≡◌, ℕ, List, ◌++◌};
 ghost use Rattle.checksum.specs.Crc.{crc, step as stepped, continued};

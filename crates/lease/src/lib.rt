@@ -1,3 +1,5 @@
+#![tactic(auto)]
+
 // The lending core: settings, leases, the lease table and what a client holds.
 mod answer;
 mod clock;

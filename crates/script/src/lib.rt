@@ -1,3 +1,5 @@
+#![tactic(auto)]
+
 // The bytes of a script as entries: who hears a message, and the message.
 mod entry;
 mod laws;

@@ -1,3 +1,5 @@
+#![tactic(auto)]
+
 // A set of stamps that is asked by the million.
 mod laws;
 mod seen;
