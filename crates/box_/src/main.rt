@@ -1,3 +1,5 @@
+#![tactic(auto)]
+
 // A client: messages from standard input, messages to standard output.
 mod shell;
 

@@ -1,3 +1,5 @@
+#![tactic(auto)]
+
 // How fast the sum is, with the argument `time`; else sums that are the same in every run.
 use checksum::{crc32c, crc32c_append};
 use std::alloc::{AllocError, Global};

@@ -1,3 +1,5 @@
+#![tactic(auto)]
+
 // A client: all of it but its input and output.
 mod asking;
 mod client;

@@ -1,3 +1,5 @@
+#![tactic(auto)]
+
 // Plays scripts of messages to a client, and prints what it puts out. A script has one message a line, in hexadecimal digits; `* 60` behind it has it heard 60 times.
 mod line;
 

@@ -1,3 +1,5 @@
+#![tactic(auto)]
+
 // Plays a built-in run of a server and three clients, and prints at each tick of the server who uses what.
 use anyhow::anyhow;
 use lease::{Found, Settings};

@@ -1,3 +1,5 @@
+#![tactic(auto)]
+
 // Plays every script that list.txt names, and prints what the program hall does with each.
 use anyhow::anyhow;
 use printing::{Printer, is_two};

@@ -1,3 +1,5 @@
+#![tactic(auto)]
+
 // Plays a script from standard input, and prints what is reported of the run.
 use printing::{Printer, is_two};
 use replay::{Stopped, play};

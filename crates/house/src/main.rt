@@ -1,3 +1,5 @@
+#![tactic(auto)]
+
 // A server: messages from standard input, its device in a file, messages to standard output.
 mod device;
 mod file;

@@ -1,3 +1,5 @@
+#![tactic(auto)]
+
 // A lease table that survives crashes: records on a device of two rows, and what is recovered from them.
 mod append;
 mod codec;

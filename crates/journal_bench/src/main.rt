@@ -1,3 +1,5 @@
+#![tactic(auto)]
+
 // How fast the journal recovers and appends, with the argument `time`; else what it leaves, the same in every run.
 use anyhow::anyhow;
 use checksum::crc32c;

@@ -1,3 +1,5 @@
+#![tactic(auto)]
+
 // Plays appends, crashes within them and restarts on a device in memory, and then devices of every kind; prints what is found.
 ghost use Rattle.std.specs.Prelude.{◌<◌};
 

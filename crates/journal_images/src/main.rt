@@ -1,3 +1,5 @@
+#![tactic(auto)]
+
 // Opens devices whose bytes are written down in files, and prints what each is found to be and where its next record goes.
 ghost use Rattle.std.specs.Prelude.{◌<◌, IfOk};
 

@@ -1,3 +1,5 @@
+#![tactic(auto)]
+
 // Examples of the lending core, run on values.
 use lease::{Clock, Grant, Request};
 

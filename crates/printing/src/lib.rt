@@ -1,3 +1,5 @@
+#![tactic(auto)]
+
 // The lines of a report as text.
 mod printer;
 

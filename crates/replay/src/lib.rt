@@ -1,3 +1,5 @@
+#![tactic(auto)]
+
 // A server, its device and 64 clients in one process, over the bytes that a script brings them: the very code of the programs, watched and reported.
 mod heard;
 mod lead;

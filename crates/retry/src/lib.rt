@@ -1,3 +1,5 @@
+#![tactic(auto)]
+
 // When a client asks for an address or renews the one it uses, and what holds of its requests over a whole run.
 mod pacing;
 mod schedule;

@@ -1,3 +1,5 @@
+#![tactic(auto)]
+
 // Prints at which ticks a client asks: renewals of an address that it asked for at 0 and was lent at once, and requests without one.
 ghost use Rattle.std.specs.Prelude.{◌≡◌, if◌then◌else◌, Some, None};
 ghost use Rattle.retry.specs.Schedule.{is_due, requested};

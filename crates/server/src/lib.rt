@@ -1,3 +1,5 @@
+#![tactic(auto)]
+
 // A server: what it makes of each message that it hears, and what is to be made durable and sent then, in order.
 mod effect;
 mod laws;

@@ -1,3 +1,5 @@
+#![tactic(auto)]
+
 // How fast a server answers requests, its device in memory, with the argument `time`; else what it answers, the same in every run.
 mod bench;
 

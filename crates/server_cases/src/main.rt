@@ -1,3 +1,5 @@
+#![tactic(auto)]
+
 // Plays scripts to servers with devices in memory, zeros at first, and prints what each message makes them do.
 mod bytes;
 mod stage;

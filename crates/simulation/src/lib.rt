@@ -1,3 +1,5 @@
+#![tactic(auto)]
+
 // A server, clients, their clocks and a network in one process: the very code of the parties, played event by event.
 mod event;
 mod network;

@@ -1,3 +1,5 @@
+#![tactic(auto)]
+
 // Plays random nets of a server and clients to the simulation, and prints what happened in them: first with every premise kept, then with each broken.
 mod acts;
 mod breaking;

@@ -1,3 +1,5 @@
+#![tactic(auto)]
+
 // A stream of messages that comes in chunks: whatever the chunks, the messages handed on are those of the whole stream.
 mod hearer;
 mod inbox;

@@ -1,3 +1,5 @@
+#![tactic(auto)]
+
 // A server, its device and clients as one system over the bytes that they hear: what a run of it is reported to be, and what holds of every run.
 mod laws;
 mod line;

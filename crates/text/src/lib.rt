@@ -1,3 +1,5 @@
+#![tactic(auto)]
+
 // Scripts and streams of messages as text for people, one line an entry.
 mod decimal;
 mod entry;

@@ -1,3 +1,5 @@
+#![tactic(auto)]
+
 // Reads and writes a table of cases: what each text says in bytes and which text these have again, what each bytes say, and why one is refused.
 mod case;
 

@@ -1,3 +1,5 @@
+#![tactic(auto)]
+
 // Messages in bytes: what a message's bytes say to the one who reads them, and which bytes say a message.
 mod decode;
 mod encode;

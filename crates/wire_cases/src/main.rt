@@ -1,3 +1,5 @@
+#![tactic(auto)]
+
 // Plays a table of byte strings: what each says to its reader, good and bad, one line each.
 mod answer;
 mod case;

@@ -1,3 +1,5 @@
+#![tactic(auto)]
+
 // Scripts and streams between bytes and text: standard input to standard output.
 mod mode;
 

@@ -4,4 +4,4 @@ use Rattle.checksum.proofs.crc32c.Goals as goal
 
 pub returns : goal.returns
 unfolding crc continued
-returns c = record { value = c.crc32c-append.ensures.value; word = has-32-bits; bursts = detects-bursts; changes = detects-changed-bytes }
+returns c = record { value = c.crc32c_append.ensures.value; word = has-32-bits; bursts = detects-bursts; changes = detects-changed-bytes }

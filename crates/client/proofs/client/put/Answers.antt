@@ -9,7 +9,7 @@ use Rattle.client.proofs.client.put.Goals as goal
 pub returns-in-Some : goal.returns-in-Some
 returns-in-Some c =
     let said : List Message = (turn_of c.args.step.turn).says in
-    c.push-reserved.ensures.items
-    ∙ ap (λ (l : List Message). l ++ (Request c.in-Some.request ∷ [])) c.put-turn.ensures.items
+    c.push_reserved.ensures.items
+    ∙ ap (λ (l : List Message). l ++ (Request c.in-Some.request ∷ [])) c.put_turn.ensures.items
     ∙ append_assoc (vec_items c.args.out.now) said (Request c.in-Some.request ∷ [])
     ∙ ap (λ (o : Option lent.Request). vec_items c.args.out.now ++ and_asks o said) (sym c.in-Some.is)

@@ -14,12 +14,12 @@ returns-in-Some c =
     let told : List Message = InUse c.in-Some.using.address c.in-Some.using.until ∷ [] in
     let first : vec_items c.if-turn.out ≡ out ++ stopping stopped =
     elim c.if-turn.branch [
-      | then-turn w ↦ ap vec_items w.out-is ∙ w.push-reserved.ensures.items ∙ ap (λ (b : Bool). out ++ stopping b) (sym w.if-turn.true)
+      | then-turn w ↦ ap vec_items w.out-is ∙ w.push_reserved.ensures.items ∙ ap (λ (b : Bool). out ++ stopping b) (sym w.if-turn.true)
       | else-turn w ↦ ap vec_items w.out-is ∙ sym (append-nil out) ∙ ap (λ (b : Bool). out ++ stopping b) (sym w.if-turn.false)
     ]
     in
     record {
-      items = c.push-reserved-in-Some.ensures.items ∙ ap (λ (l : List Message). l ++ told) first ∙ append_assoc out (stopping stopped) told
+      items = c.push_reserved-in-Some.ensures.items ∙ ap (λ (l : List Message). l ++ told) first ∙ append_assoc out (stopping stopped) told
           ∙ ap (λ (o : Option Use). out ++ (stopping stopped ++ taking o)) (sym c.in-Some.is);
       len = search rules;
       capacity = search rules;

@@ -7,13 +7,13 @@ use Rattle.house.proofs.perform.perform.Goals as goal
 
 pub returns-in-Err : goal.returns-in-Err
 returns-in-Err g c =
-    acts-stop g.O.Outside.did c.args.outside.now c.loop-effect.outside c.do-one.new.outside (bytes_in c.args.server.now) c.args.effects.now c.loop-effect.effect-index (Persist 0 0)
+    acts-stop g.O.Outside.did c.args.outside.now c.loop-effect.outside c.do_one.new.outside (bytes_in c.args.server.now) c.args.effects.now c.loop-effect.effect-index (Persist 0 0)
     c.loop-effect-test.true c.loop-effect.invariant c.in-Err.ensures
 
 pub loop-effect-preserved : goal.loop-effect-preserved
 loop-effect-preserved g c =
-    acts-more g.O.Outside.did c.args.outside.now c.loop-effect.outside c.do-one.new.outside (bytes_in c.args.server.now) c.args.effects.now c.loop-effect.effect-index (Persist 0 0)
-    c.loop-effect-test.true c.loop-effect.invariant c.in-default.ensures
+    acts-more g.O.Outside.did c.args.outside.now c.loop-effect.outside c.do_one.new.outside (bytes_in c.args.server.now) c.args.effects.now c.loop-effect.effect-index (Persist 0 0)
+    c.loop-effect-test.true c.loop-effect.invariant c.in_default.ensures
 
 pub returns : goal.returns
 returns g c =

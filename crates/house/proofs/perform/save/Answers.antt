@@ -3,8 +3,8 @@ use Rattle.house.specs.Acts.{Wrote, Synced, Grows, Partly, bytes_in}
 use Rattle.house.proofs.Doing.{does-next, fails-first, placed, unbegun}
 use Rattle.house.proofs.perform.save.Goals as goal
 
-pub returns-in-default : goal.returns-in-default
-returns-in-default g c =
+pub returns-in_default : goal.returns-in_default
+returns-in_default g c =
     unbegun g.O.Outside.did c.args.outside.now (Wrote c.args.place (bytes_in c.args.server.now c.args.place)) (Synced ∷ [])
 
 pub returns-in-Err : goal.returns-in-Err
@@ -17,4 +17,4 @@ pub returns : goal.returns
 returns g c =
     let b : List ℕ = bytes_in c.args.server.now c.args.place in
     does-next g.O.Outside.did c.args.outside.now c.write.new.self c.sync.new.self (Wrote c.args.place b ∷ []) (Synced ∷ []) c.sync.result
-    (subst (λ (x : List ℕ). Grows g.O.Outside.did c.args.outside.now (Wrote c.args.place x ∷ []) c.write.new.self) (placed (ltb c.args.place 8192) b c.in-Some.bytes c.in-Some.ensures) c.in-default-write.ensures) c.sync.ensures
+    (subst (λ (x : List ℕ). Grows g.O.Outside.did c.args.outside.now (Wrote c.args.place x ∷ []) c.write.new.self) (placed (ltb c.args.place 8192) b c.in-Some.bytes c.in-Some.ensures) c.in_default-write.ensures) c.sync.ensures

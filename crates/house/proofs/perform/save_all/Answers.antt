@@ -8,10 +8,10 @@ loop-i-init g c = saves-none g.O.Outside.did c.args.outside.now (bytes_in c.args
 
 pub returns-in-Err : goal.returns-in-Err
 returns-in-Err g c =
-    saves-stop g.O.Outside.did c.args.outside.now c.loop-i.outside c.save-next.new.outside (bytes_in c.args.server.now) c.args.first c.loop-i.i c.args.count
+    saves-stop g.O.Outside.did c.args.outside.now c.loop-i.outside c.save_next.new.outside (bytes_in c.args.server.now) c.args.first c.loop-i.i c.args.count
     (omega arith) c.loop-i.invariant c.in-Err.ensures
 
 pub loop-i-preserved : goal.loop-i-preserved
 loop-i-preserved g c =
-    saves-more g.O.Outside.did c.args.outside.now c.loop-i.outside c.save-next.new.outside (bytes_in c.args.server.now) c.args.first c.loop-i.i
-    c.loop-i.invariant c.in-default.ensures
+    saves-more g.O.Outside.did c.args.outside.now c.loop-i.outside c.save_next.new.outside (bytes_in c.args.server.now) c.args.first c.loop-i.i
+    c.loop-i.invariant c.in_default.ensures

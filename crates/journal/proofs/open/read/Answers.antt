@@ -3,4 +3,4 @@ use Rattle.journal.proofs.Readings.{row-0, row-1}
 use Rattle.journal.proofs.open.read.Goals as goal
 
 pub returns : goal.returns
-returns c = c.choose.ensures (device_of c.args.device.now) (row-0 c.args.device.now c.scan-row.result c.scan-row.ensures) (row-1 c.args.device.now c.scan-row-2.result c.scan-row-2.ensures)
+returns c = c.choose.ensures (device_of c.args.device.now) (row-0 c.args.device.now c.scan_row.result c.scan_row.ensures) (row-1 c.args.device.now c.scan_row-2.result c.scan_row-2.ensures)

@@ -17,8 +17,8 @@ loop-k-init c a l = c.loop-i.invariant a (omega arith)
 
 pub loop-k-preserved : goal.loop-k-preserved
 loop-k-preserved c =
-    restored-more (λ k. place_of (get_or c.args.device.now (c.args.from + k) [])) c.loop-k.k c.loop-k.table c.put-record.new.table c.decode.result (zeros (get_or c.args.device.now (c.args.from + c.loop-k.k) []))
+    restored-more (λ k. place_of (get_or c.args.device.now (c.args.from + k) [])) c.loop-k.k c.loop-k.table c.put_record.new.table c.decode.result (zeros (get_or c.args.device.now (c.args.from + c.loop-k.k) []))
     (omega arith)
     (ap (λ (o : Option Record). place_from o (zeros (get_or c.args.device.now (c.args.from + c.loop-k.k) []))) c.decode.ensures.value)
     c.loop-k.invariant
-    c.put-record.ensures
+    c.put_record.ensures

@@ -11,7 +11,7 @@ loop-k-init c = refl
 
 pub loop-k-preserved : goal.loop-k-preserved
 loop-k-preserved c =
-    scanned-more (λ k. place_of (get_or c.args.device.now (c.args.from + k) [])) c.loop-k.k c.loop-k.scan c.noted-scan.result (place_from c.decode.result c.is-zero.result)
+    scanned-more (λ k. place_of (get_or c.args.device.now (c.args.from + k) [])) c.loop-k.k c.loop-k.scan c.noted-scan.result (place_from c.decode.result c.is_zero.result)
     c.loop-k.invariant
-    (ap₂ (λ (o : Option Record) (z : Bool). place_from o z) c.decode.ensures.value c.is-zero.ensures)
+    (ap₂ (λ (o : Option Record) (z : Bool). place_from o z) c.decode.ensures.value c.is_zero.ensures)
     c.noted-scan.ensures

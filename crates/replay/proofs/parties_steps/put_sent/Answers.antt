@@ -10,8 +10,8 @@ loop-effect-init c = refl
 
 pub loop-effect-preserved : goal.loop-effect-preserved
 loop-effect-preserved c =
-    pass-turn sends sent sends_none sends_more c.args.effects.now c.loop-effect.effect-index (Persist 0 0) (vec_items c.loop-effect.said) (vec_items c.put-effect.new.said) _ c.loop-effect-test.true c.loop-effect.invariant
-    c.in-ok-put-effect.ensures
+    pass-turn sends sent sends_none sends_more c.args.effects.now c.loop-effect.effect-index (Persist 0 0) (vec_items c.loop-effect.said) (vec_items c.put_effect.new.said) _ c.loop-effect-test.true c.loop-effect.invariant
+    c.in_ok-put_effect.ensures
 
 pub returns : goal.returns
 returns c = pass-end sends sent sends_none sends_more c.args.effects.now c.loop-effect.effect-index (vec_items c.loop-effect.said) _ c.loop-effect-test.false c.loop-effect.invariant

@@ -12,5 +12,5 @@ pub returns : goal.returns
 unfolding read
 returns c =
     let e : c.read.result ≡ read c.message.result.now = c.read.ensures in
-    tick-at c.args.script.now c.args.entries.now c.args.i _ c.message.result.now c.is-tick.result c.if-i-entries.false (c.message.ensures.inside (c.requires c.args.i _ c.if-i-entries.false))
-    (c.is-tick.ensures ∙ ap (λ (o : Option Message). is_tick_in o) e)
+    tick-at c.args.script.now c.args.entries.now c.args.i _ c.message.result.now c.is_tick.result c.if-i-entries.false (c.message.ensures.inside (c.requires c.args.i _ c.if-i-entries.false))
+    (c.is_tick.ensures ∙ ap (λ (o : Option Message). is_tick_in o) e)

@@ -9,19 +9,19 @@ use Rattle.replay.proofs.player.moment_at.Goals.{else-is-tick-at-via-then-is-tic
 both : (a b c d : Bool) → a ≡ c → b ≡ d → not (a && b) ≡ not (c && d)
 both a b c d e f = ap (λ (x : Bool). not (x && b)) e ∙ ap (λ (x : Bool). not (c && x)) f
 
-pub returns-then-is-tick-at-2 : goal.returns-then-is-tick-at-2
-returns-then-is-tick-at-2 c =
+pub returns-then-is_tick_at-2 : goal.returns-then-is_tick_at-2
+returns-then-is_tick_at-2 c =
     let es : List Event = events_in c.args.script.now c.args.entries.now in
-    both true true (ticks_next (drop c.args.i es)) (ticks_next (drop (c.args.i + 1) es)) (sym c.if-is-tick-at.true ∙ c.is-tick-at.ensures) (sym c.if-is-tick-at-2.true ∙ c.is-tick-at-then-is-tick-at.ensures)
+    both true true (ticks_next (drop c.args.i es)) (ticks_next (drop (c.args.i + 1) es)) (sym c.if-is_tick_at.true ∙ c.is_tick_at.ensures) (sym c.if-is_tick_at-2.true ∙ c.is_tick_at-then-is_tick_at.ensures)
     ∙ sym (judged-at es c.args.i)
 
 pub returns : goal.returns
 returns c =
     let es : List Event = events_in c.args.script.now c.args.entries.now in
-    elim c.else-is-tick-at.branch [
+    elim c.else-is_tick_at.branch [
       | else-is-tick-at-via-then-is-tick-at+else-is-tick-at-2 w ↦
-          both true false (ticks_next (drop c.args.i es)) (ticks_next (drop (c.args.i + 1) es)) (sym w.if-is-tick-at.true ∙ c.is-tick-at.ensures) (sym w.if-is-tick-at-2.false ∙ w.is-tick-at-then-is-tick-at.ensures)
+          both true false (ticks_next (drop c.args.i es)) (ticks_next (drop (c.args.i + 1) es)) (sym w.if-is_tick_at.true ∙ c.is_tick_at.ensures) (sym w.if-is_tick_at-2.false ∙ w.is_tick_at-then-is_tick_at.ensures)
           ∙ sym (judged-at es c.args.i)
       | else-is-tick-at-via-else-is-tick-at w ↦
-          both false (ticks_next (drop (c.args.i + 1) es)) (ticks_next (drop c.args.i es)) (ticks_next (drop (c.args.i + 1) es)) (sym w.if-is-tick-at.false ∙ c.is-tick-at.ensures) refl ∙ sym (judged-at es c.args.i)
+          both false (ticks_next (drop (c.args.i + 1) es)) (ticks_next (drop c.args.i es)) (ticks_next (drop (c.args.i + 1) es)) (sym w.if-is_tick_at.false ∙ c.is_tick_at.ensures) refl ∙ sym (judged-at es c.args.i)
     ]

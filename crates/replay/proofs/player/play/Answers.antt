@@ -23,18 +23,18 @@ returns-in-Err c = record {
   promise = names-no-two;
 }
 
-pub returns-in-default-new : goal.returns-in-default-new
-returns-in-default-new c = record { ended = inl refl; promise = names-no-two }
+pub returns-in_default-new : goal.returns-in_default-new
+returns-in_default-new c = record { ended = inl refl; promise = names-no-two }
 
-pub returns-in-Ok-play-all : goal.returns-in-Ok-play-all
-returns-in-Ok-play-all c = record {
+pub returns-in-Ok-play_all : goal.returns-in-Ok-play_all
+returns-in-Ok-play_all c = record {
   ended = record {
     parts = map (part_of c.args.script.now) (vec_items c.read.new.entries);
-    reads = c.in-default.ensures.reads;
-    appends = c.in-Ok-play-all.ensures
+    reads = c.in_default.ensures.reads;
+    appends = c.in-Ok-play_all.ensures
         ∙ ap (λ (l : List Entry). vec_items c.args.report.now ++ played (events_in c.args.script.now l) (play_of c.in-Ok.simulation)) c.deref.ensures.value
         ∙ ap (λ (h : Play). vec_items c.args.report.now ++ played (events_in c.args.script.now (vec_items c.read.new.entries)) h) c.in-Ok.ensures;
-    promise = λ k. names-no-two (events_in c.args.script.now (vec_items c.read.new.entries)) (within_all (map (part_of c.args.script.now) (vec_items c.read.new.entries)) c.in-default.ensures.reads.known) k;
+    promise = λ k. names-no-two (events_in c.args.script.now (vec_items c.read.new.entries)) (within_all (map (part_of c.args.script.now) (vec_items c.read.new.entries)) c.in_default.ensures.reads.known) k;
   };
   promise = names-no-two;
 }
@@ -43,10 +43,10 @@ pub returns : goal.returns
 returns c = record {
   ended = inr (record {
     parts = map (part_of c.args.script.now) (vec_items c.read.new.entries);
-    reads = c.in-default.ensures.reads;
+    reads = c.in_default.ensures.reads;
     begins = record {
-      rest = c.in-Err-play-all.ensures.rest;
-      joins = c.in-Err-play-all.ensures.joins
+      rest = c.in-Err-play_all.ensures.rest;
+      joins = c.in-Err-play_all.ensures.joins
           ∙ ap (λ (l : List Entry). vec_items c.args.report.now ++ played (events_in c.args.script.now l) (play_of c.in-Ok.simulation)) c.deref.ensures.value
           ∙ ap (λ (h : Play). vec_items c.args.report.now ++ played (events_in c.args.script.now (vec_items c.read.new.entries)) h) c.in-Ok.ensures;
     };

@@ -12,8 +12,8 @@ loop-i-init c = refl
 
 pub loop-i-preserved : goal.loop-i-preserved
 loop-i-preserved c =
-    play-turn c.args.script.now c.args.entries.now c.loop-i.i _ c.message.result.now (is_judged c.moment-at-moment.result) (play_of c.loop-i.simulation) (play_of c.hear.new.self)
-    (vec_items c.loop-i.report) (vec_items c.hear.new.out) _ c.loop-i-test.true (c.message.ensures.inside (c.requires c.loop-i.i _ c.loop-i-test.true)) c.moment-at-moment.ensures c.in-Ok.ensures.heard
+    play-turn c.args.script.now c.args.entries.now c.loop-i.i _ c.message.result.now (is_judged c.moment_at-moment.result) (play_of c.loop-i.simulation) (play_of c.hear.new.self)
+    (vec_items c.loop-i.report) (vec_items c.hear.new.out) _ c.loop-i-test.true (c.message.ensures.inside (c.requires c.loop-i.i _ c.loop-i-test.true)) c.moment_at-moment.ensures c.in-Ok.ensures.heard
     c.loop-i.invariant
 
 pub returns : goal.returns

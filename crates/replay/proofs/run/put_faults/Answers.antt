@@ -10,7 +10,7 @@ loop-message-init c = refl
 pub loop-message-preserved : goal.loop-message-preserved
 loop-message-preserved c =
     pass-turn (fault_lines c.args.listener) (λ m. fault_line c.args.listener (fault_in m)) (faults-none c.args.listener) (faults-more c.args.listener) c.args.said.now c.loop-message.message-index _ (vec_items c.loop-message.out)
-    (vec_items c.put-fault.new.out) _ c.loop-message-test.true c.loop-message.invariant c.in-ok-put-fault.ensures
+    (vec_items c.put_fault.new.out) _ c.loop-message-test.true c.loop-message.invariant c.in_ok-put_fault.ensures
 
 pub returns : goal.returns
 returns c =

@@ -9,7 +9,7 @@ loop-place-init c = any_none (λ i. wide c.args.skew (leads_of c.args.leads.now 
 
 pub loop-place-preserved : goal.loop-place-preserved
 loop-place-preserved c =
-    any-more (λ i. wide c.args.skew (leads_of c.args.leads.now i)) c.loop-place.place c.is-wide-found.result c.loop-place.found c.is-wide-found.ensures c.loop-place.invariant
+    any-more (λ i. wide c.args.skew (leads_of c.args.leads.now i)) c.loop-place.place c.is_wide-found.result c.loop-place.found c.is_wide-found.ensures c.loop-place.invariant
 
 pub returns : goal.returns
 returns c =

@@ -9,8 +9,8 @@ loop-i-init c = pass-back-none grants grant_of grants-none grants-more c.args.sa
 
 pub loop-i-preserved : goal.loop-i-preserved
 loop-i-preserved c =
-    pass-down grants grant_of grants-none grants-more c.args.said.now c.loop-i.i _ (grants_of c.loop-i.grants) (grants_of c.note-grant.new.grants) (grants_of c.args.grants.now) (omega arith) (omega arith) c.loop-i.invariant
-    c.in-ok-note-grant.ensures
+    pass-down grants grant_of grants-none grants-more c.args.said.now c.loop-i.i _ (grants_of c.loop-i.grants) (grants_of c.note_grant.new.grants) (grants_of c.args.grants.now) (omega arith) (omega arith) c.loop-i.invariant
+    c.in_ok-note_grant.ensures
 
 pub returns : goal.returns
 returns c = pass-whole grants grant_of grants-none grants-more c.args.said.now c.loop-i.i (grants_of c.loop-i.grants) (grants_of c.args.grants.now) c.loop-i-test.false c.loop-i.invariant

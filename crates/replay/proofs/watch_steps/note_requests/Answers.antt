@@ -9,8 +9,8 @@ loop-i-init c = pass-back-none requests request requests-none requests-more c.ar
 
 pub loop-i-preserved : goal.loop-i-preserved
 loop-i-preserved c =
-    pass-down requests request requests-none requests-more c.args.said.now c.loop-i.i _ (requests_of c.loop-i.requests) (requests_of c.note-request.new.requests) (requests_of c.args.requests.now) (omega arith) (omega arith) c.loop-i.invariant
-    c.in-ok-note-request.ensures
+    pass-down requests request requests-none requests-more c.args.said.now c.loop-i.i _ (requests_of c.loop-i.requests) (requests_of c.note_request.new.requests) (requests_of c.args.requests.now) (omega arith) (omega arith) c.loop-i.invariant
+    c.in_ok-note_request.ensures
 
 pub returns : goal.returns
 returns c = pass-whole requests request requests-none requests-more c.args.said.now c.loop-i.i (requests_of c.loop-i.requests) (requests_of c.args.requests.now) c.loop-i-test.false c.loop-i.invariant

@@ -6,4 +6,4 @@ use Rattle.replay.proofs.Stamps.{grant-member}
 use Rattle.replay.proofs.watch_steps.was_granted.Goals as goal
 
 pub returns : goal.returns
-returns c = c.contains.ensures ∙ ap (λ (s : Stamp). member s (stamps_of c.args.grants.now)) c.of-grant.ensures ∙ grant-member c.args.grant (stamps_of c.args.grants.now)
+returns c = c.contains.ensures ∙ ap (λ (s : Stamp). member s (stamps_of c.args.grants.now)) c.of_grant.ensures ∙ grant-member c.args.grant (stamps_of c.args.grants.now)

@@ -6,4 +6,4 @@ use Rattle.replay.proofs.Stamps.{request-member}
 use Rattle.replay.proofs.watch_steps.was_requested.Goals as goal
 
 pub returns : goal.returns
-returns c = c.contains.ensures ∙ ap (λ (s : Stamp). member s (stamps_of c.args.requests.now)) c.of-request.ensures ∙ request-member c.args.request (stamps_of c.args.requests.now)
+returns c = c.contains.ensures ∙ ap (λ (s : Stamp). member s (stamps_of c.args.requests.now)) c.of_request.ensures ∙ request-member c.args.request (stamps_of c.args.requests.now)

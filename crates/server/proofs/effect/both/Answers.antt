@@ -4,5 +4,5 @@ use Rattle.server.proofs.effect.both.Goals as goal
 
 pub returns : goal.returns
 returns c =
-    c.push-reserved-2.ensures.items ∙ ap (λ (l : List Effect). l ++ (c.args.later ∷ [])) c.push-reserved.ensures.items
+    c.push_reserved-2.ensures.items ∙ ap (λ (l : List Effect). l ++ (c.args.later ∷ [])) c.push_reserved.ensures.items
     ∙ append_assoc (vec_items c.args.out.now) (c.args.earlier ∷ []) (c.args.later ∷ [])

@@ -10,18 +10,18 @@ pub loop-i-preserved : goal.loop-i-preserved
 loop-i-preserved c =
     let e : clients_of c.args.clients.now c.loop-i.i ≡ client_of c.index-clients-i.result =
     client-read c.args.clients.now c.loop-i.i c.index-clients-i.result c.loop-i-test.true c.index-clients-i.is in
-    let f : is_err c.pass.result ≡ false = sym c.is-err.ensures.value ∙ c.if-is-err.false in
+    let f : is_err c.pass.result ≡ false = sym c.is_err.ensures.value ∙ c.if-is_err.false in
     let g : c.at.result ≡ get_or c.args.ticks.now c.loop-i.i 0 = c.at.ensures in
     below_more _ _ c.loop-i.invariant (λ u.
     let up : c.index-clients-i.result.up ≡ true = sym (ap (λ (x : world.Client). x.up) e) ∙ u in
     let h : c.index-clients-i.result.clock.ticks + c.at.result < 2 ^ 63 = can-pass c.pass.result c.at.result c.index-clients-i.result c.pass.ensures f up in
     omega (arith, h, g, ap (λ (x : world.Client). x.clock) e))
 
-pub returns-then-is-err : goal.returns-then-is-err
-returns-then-is-err c =
+pub returns-then-is_err : goal.returns-then-is_err
+returns-then-is_err c =
     let e : clients_of c.args.clients.now c.loop-i.i ≡ client_of c.index-clients-i.result =
     client-read c.args.clients.now c.loop-i.i c.index-clients-i.result c.loop-i-test.true c.index-clients-i.is in
-    let f : is_err c.pass.result ≡ true = sym c.is-err.ensures.value ∙ c.if-is-err.true in
+    let f : is_err c.pass.result ≡ true = sym c.is_err.ensures.value ∙ c.if-is_err.true in
     let g : c.at.result ≡ get_or c.args.ticks.now c.loop-i.i 0 = c.at.ensures in
     let h : (c.index-clients-i.result.up ≡ true) × (2 ^ 63 ≤ c.index-clients-i.result.clock.ticks + c.at.result) =
     cannot-pass c.pass.result c.at.result c.index-clients-i.result c.pass.ensures f in

@@ -7,6 +7,6 @@ use Rattle.text.proofs.decimal.+write_decimal.Goals.{then-n-ge10+in-ok-write-dec
 pub returns : goal.returns
 returns t c =
     elim c.if-n-ge10.branch [
-      | then-n-ge10+in-ok-write-decimal w ↦ last-digit _ (vec_items c.if-n-ge10.out) _ c.args.n w.if-n-ge10.true c.ranges.n.fits c.in-ok-push.ensures.items (ap vec_items w.out-is ∙ w.in-ok-write-decimal.ensures)
-      | else-n-ge10 w ↦ only-digit _ _ c.args.n w.if-n-ge10.false (c.in-ok-push.ensures.items ∙ ap (λ (v : Vec ℕ Global). vec_items v ++ (48 + c.args.n % 10) ∷ []) w.out-is)
+      | then-n-ge10+in-ok-write-decimal w ↦ last-digit _ (vec_items c.if-n-ge10.out) _ c.args.n w.if-n-ge10.true c.ranges.n.fits c.in_ok-push.ensures.items (ap vec_items w.out-is ∙ w.in_ok-write_decimal.ensures)
+      | else-n-ge10 w ↦ only-digit _ _ c.args.n w.if-n-ge10.false (c.in_ok-push.ensures.items ∙ ap (λ (v : Vec ℕ Global). vec_items v ++ (48 + c.args.n % 10) ∷ []) w.out-is)
     ]

@@ -5,5 +5,5 @@ use Rattle.text.proofs.hex.read_hex.Goals as goal
 
 pub loop-high-preserved : goal.loop-high-preserved
 loop-high-preserved c =
-    moved _ _ _ _ _ c.in-ok-push.ensures.items (meant-on _ _ _ _ _ _ _ c.in-Some.ensures.cases.0 c.in-Some-split-first.ensures.cases.0 c.value-of.ensures.value c.value-of-in-Some.ensures.value)
+    moved _ _ _ _ _ c.in_ok-push.ensures.items (meant-on _ _ _ _ _ _ _ c.in-Some.ensures.cases.0 c.in-Some-split_first.ensures.cases.0 c.value_of.ensures.value c.value_of-in-Some.ensures.value)
     ∙ c.loop-high.invariant

@@ -7,7 +7,7 @@ use Rattle.text.proofs.hex.write_hex.Goals as goal
 
 pub loop-byte-preserved : goal.loop-byte-preserved
 loop-byte-preserved c =
-    moved-two _ _ _ _ _ _ _ c.in-ok-push.ensures.items c.in-ok-push-2.ensures.items (written_on c.args.bytes.now c.loop-byte.byte-index _ _ c.loop-byte-test.true c.digit-of.ensures c.digit-of-in-loop-byte.ensures)
+    moved-two _ _ _ _ _ _ _ c.in_ok-push.ensures.items c.in_ok-push-2.ensures.items (written_on c.args.bytes.now c.loop-byte.byte-index _ _ c.loop-byte-test.true c.digit_of.ensures c.digit_of-in-loop-byte.ensures)
     ∙ c.loop-byte.invariant
 
 pub returns : goal.returns

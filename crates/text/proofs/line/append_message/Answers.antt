@@ -7,4 +7,4 @@ use Rattle.text.proofs.line.append_message.Goals as goal
 
 pub returns : goal.returns
 returns c =
-    joined _ _ (vec_items c.args.out.now) (head c.args.form c.args.who) (framed (encoded c.args.message)) c.in-ok-append-head.ensures c.in-ok-encode.ensures.items
+    joined _ _ (vec_items c.args.out.now) (head c.args.form c.args.who) (framed (encoded c.args.message)) c.in_ok-append_head.ensures c.in_ok-encode.ensures.items

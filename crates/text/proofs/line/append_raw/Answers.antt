@@ -6,4 +6,4 @@ use Rattle.text.proofs.line.append_raw.Goals as goal
 
 pub returns : goal.returns
 returns c =
-    byte-between _ _ _ (vec_items c.args.out.now) (head c.args.form c.args.who) (meant c.args.digits.now) c.args.size c.in-ok-append-head.ensures c.in-ok-push.ensures.items c.in-ok-read-hex.ensures
+    byte-between _ _ _ (vec_items c.args.out.now) (head c.args.form c.args.who) (meant c.args.digits.now) c.args.size c.in_ok-append_head.ensures c.in_ok-push.ensures.items c.in_ok-read_hex.ensures

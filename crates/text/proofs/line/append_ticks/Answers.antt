@@ -12,7 +12,7 @@ loop-init c = sym (append-nil (vec_items c.args.out.now))
 
 pub loop-preserved : goal.loop-preserved
 loop-preserved c =
-    one_more _ _ (vec_items c.args.out.now) (entry_bytes c.args.form c.args.who (encoded Tick)) c.loop.counter c.loop.invariant c.in-ok-append-message.ensures
+    one_more _ _ (vec_items c.args.out.now) (entry_bytes c.args.form c.args.who (encoded Tick)) c.loop.counter c.loop.invariant c.in_ok-append_message.ensures
 
 pub returns : goal.returns
 returns c =

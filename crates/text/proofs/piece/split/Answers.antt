@@ -3,8 +3,8 @@ use Rattle.text.specs.Pieces.{pieces}
 use Rattle.text.proofs.Cutting.{Found, pieces-at, behind, behind-end}
 use Rattle.text.proofs.piece.split.Goals as goal
 
-pub returns-in-default : goal.returns-in-default
-returns-in-default c =
+pub returns-in_default : goal.returns-in_default
+returns-in_default c =
     let end : ℕ = c.args.end in
     let found : Found end c.args.text.now c.find-at.result =
     record { within = c.find-at.ensures.within; earlier = c.find-at.ensures.before; here = c.find-at.ensures.found }
@@ -12,8 +12,8 @@ returns-in-default c =
     record {
       pieces =
           pieces-at end c.args.text.now c.find-at.result c.requires found
-          ∙ ap₂ (λ (f r : List ℕ). f ∷ pieces end r) (sym c.split-at.ensures.front) (sym (behind-end c.args.text.now _ c.find-at.result c.split-at.ensures.back c.in-default.ensures.cases (omega (arith, c.in-default.ensures.cases, c.split-at.ensures.back_len))));
-      shorter = omega (arith, c.in-default.ensures.cases);
+          ∙ ap₂ (λ (f r : List ℕ). f ∷ pieces end r) (sym c.split_at.ensures.front) (sym (behind-end c.args.text.now _ c.find-at.result c.split_at.ensures.back c.in_default.ensures.cases (omega (arith, c.in_default.ensures.cases, c.split_at.ensures.back_len))));
+      shorter = omega (arith, c.in_default.ensures.cases);
     }
 
 pub returns : goal.returns
@@ -25,6 +25,6 @@ returns c =
     record {
       pieces =
           pieces-at end c.args.text.now c.find-at.result c.requires found
-          ∙ ap₂ (λ (f r : List ℕ). f ∷ pieces end r) (sym c.split-at.ensures.front) (sym (behind c.args.text.now _ c.in-Some.rest.now _ c.find-at.result c.split-at.ensures.back c.in-Some.ensures.cases.0));
-      shorter = omega (arith, c.in-Some.ensures.cases.1, c.split-at.ensures.back_len);
+          ∙ ap₂ (λ (f r : List ℕ). f ∷ pieces end r) (sym c.split_at.ensures.front) (sym (behind c.args.text.now _ c.in-Some.rest.now _ c.find-at.result c.split_at.ensures.back c.in-Some.ensures.cases.0));
+      shorter = omega (arith, c.in-Some.ensures.cases.1, c.split_at.ensures.back_len);
     }

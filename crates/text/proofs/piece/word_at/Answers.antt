@@ -9,7 +9,7 @@ loop-parts-init c =
     let found : Found comment c.args.line.now c.find-end.result =
     record { within = c.find-end.ensures.within; earlier = c.find-end.ensures.before; here = c.find-end.ensures.found }
     in
-    ap (λ (l : List ℕ). get_or (spoken l) c.args.place []) (c.split-at.ensures.front ∙ sym (before_at comment c.args.line.now c.find-end.result found))
+    ap (λ (l : List ℕ). get_or (spoken l) c.args.place []) (c.split_at.ensures.front ∙ sym (before_at comment c.args.line.now c.find-end.result found))
 
 pub returns : goal.returns
 returns c =

@@ -5,7 +5,7 @@ use Rattle.text.proofs.sentence.how_said.Goals as goal
 
 pub returns-in-Some : goal.returns-in-Some
 unfolding read
-returns-in-Some c = c.of-message.ensures ∙ ap said_if c.in-Some.ensures
+returns-in-Some c = c.of_message.ensures ∙ ap said_if c.in-Some.ensures
 
 pub returns-in-None : goal.returns-in-None
 unfolding read

@@ -6,4 +6,4 @@ use Rattle.text.proofs.told.write_entry.Goals as goal
 
 pub returns : goal.returns
 returns c =
-    three _ _ _ (vec_items c.args.out.now) (lead_text c.args.form c.args.who) (spaced (body_words c.args.spoken c.args.message.now)) (newline ∷ []) c.in-ok-write-lead.ensures c.in-ok-write-body.ensures c.in-ok-push.ensures.items
+    three _ _ _ (vec_items c.args.out.now) (lead_text c.args.form c.args.who) (spaced (body_words c.args.spoken c.args.message.now)) (newline ∷ []) c.in_ok-write_lead.ensures c.in_ok-write_body.ensures c.in_ok-push.ensures.items

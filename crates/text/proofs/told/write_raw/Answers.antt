@@ -4,4 +4,4 @@ use Rattle.text.proofs.told.write_raw.Goals as goal
 
 pub returns : goal.returns
 returns c =
-    raw-shown _ _ _ (vec_items c.args.out.now) c.args.message.now c.if-is-empty.ensures c.in-ok-extend-from-slice.ensures.items c.in-ok-push.ensures.items c.in-ok-write-hex.ensures
+    raw-shown _ _ _ (vec_items c.args.out.now) c.args.message.now c.if-is_empty.ensures c.in_ok-extend_from_slice.ensures.items c.in_ok-push.ensures.items c.in_ok-write_hex.ensures

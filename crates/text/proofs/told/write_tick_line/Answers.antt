@@ -6,4 +6,4 @@ use Rattle.text.proofs.told.write_tick_line.Goals as goal
 
 pub returns : goal.returns
 returns c =
-    three _ _ _ (vec_items c.args.out.now) (lead_text c.args.form c.args.who) (spaced (tick_words c.args.times)) (newline ∷ []) c.in-ok-write-lead.ensures c.in-ok-write-ticks.ensures c.in-ok-push.ensures.items
+    three _ _ _ (vec_items c.args.out.now) (lead_text c.args.form c.args.who) (spaced (tick_words c.args.times)) (newline ∷ []) c.in_ok-write_lead.ensures c.in_ok-write_ticks.ensures c.in_ok-push.ensures.items

@@ -4,4 +4,4 @@ use Rattle.text.proofs.told.write_ticks.Goals as goal
 
 pub returns : goal.returns
 returns c =
-    ticks-shown _ _ (vec_items c.args.out.now) c.args.times c.if-times-eq1.false c.in-ok-extend-from-slice.ensures.items c.in-ok-write-figure.ensures
+    ticks-shown _ _ (vec_items c.args.out.now) c.args.times c.if-times-eq1.false c.in_ok-extend_from_slice.ensures.items c.in_ok-write_figure.ensures

@@ -23,7 +23,7 @@ unfolding bytes2 bytes4 bytes8
 returns-in-Request c =
     record {
       bytes =
-          three _ _ _ _ _ _ _ _ _ (opened _ _ _ _ c.of-start.ensures.bytes c.kind.ensures c.in-Request.is) c.with-u32.ensures.bytes c.with-u64.ensures.bytes c.with-u16.ensures.bytes
+          three _ _ _ _ _ _ _ _ _ (opened _ _ _ _ c.of-start.ensures.bytes c.kind.ensures c.in-Request.is) c.with_u32.ensures.bytes c.with_u64.ensures.bytes c.with_u16.ensures.bytes
           ∙ sym (ap (λ (m : Message). framed (encoded m)) c.in-Request.is);
       room = search rules;
     }
@@ -33,7 +33,7 @@ unfolding bytes2 bytes4 bytes8
 returns-in-Grant c =
     record {
       bytes =
-          three _ _ _ _ _ _ _ _ _ (opened _ _ _ _ c.of-start.ensures.bytes c.kind.ensures c.in-Grant.is) c.with-u32-in-Grant.ensures.bytes c.with-u64-in-Grant.ensures.bytes c.with-u16-in-Grant.ensures.bytes
+          three _ _ _ _ _ _ _ _ _ (opened _ _ _ _ c.of-start.ensures.bytes c.kind.ensures c.in-Grant.is) c.with_u32-in-Grant.ensures.bytes c.with_u64-in-Grant.ensures.bytes c.with_u16-in-Grant.ensures.bytes
           ∙ sym (ap (λ (m : Message). framed (encoded m)) c.in-Grant.is);
       room = search rules;
     }
@@ -43,7 +43,7 @@ unfolding bytes2 bytes4 bytes8
 returns-in-Settings c =
     record {
       bytes =
-          three _ _ _ _ _ _ _ _ _ (opened _ _ _ _ c.of-start.ensures.bytes c.kind.ensures c.in-Settings.is) c.with-u16-in-Settings.ensures.bytes c.with-u32-in-Settings.ensures.bytes c.with-u16-in-Settings-2.ensures.bytes
+          three _ _ _ _ _ _ _ _ _ (opened _ _ _ _ c.of-start.ensures.bytes c.kind.ensures c.in-Settings.is) c.with_u16-in-Settings.ensures.bytes c.with_u32-in-Settings.ensures.bytes c.with_u16-in-Settings-2.ensures.bytes
           ∙ sym (ap (λ (m : Message). framed (encoded m)) c.in-Settings.is);
       room = search rules;
     }

@@ -5,4 +5,4 @@ use Rattle.box◌.proofs.shell.ShellHearer.hear.Goals as goal
 
 pub returns : goal.returns
 returns c =
-    ran_one (client_of c.args.self.now.client) (client_of c.hear-one.new.self.client) (vec_items c.args.self.now.out.bytes) (vec_items c.hear-one.new.self.out.bytes) c.args.bytes.now c.hear-one.result c.hear-one.ensures
+    ran_one (client_of c.args.self.now.client) (client_of c.hear_one.new.self.client) (vec_items c.args.self.now.out.bytes) (vec_items c.hear_one.new.self.out.bytes) c.args.bytes.now c.hear_one.result c.hear_one.ensures

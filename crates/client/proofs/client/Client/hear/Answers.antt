@@ -5,9 +5,9 @@ use Rattle.client.proofs.client.Client.hear.Goals as goal
 pub returns : goal.returns
 returns c =
     record {
-      client = c.hear-bytes.ensures.client;
-      out = c.hear-bytes.ensures.out;
-      succeeds = c.hear-bytes.ensures.succeeds;
+      client = c.hear_bytes.ensures.client;
+      out = c.hear_bytes.ensures.out;
+      succeeds = c.hear_bytes.ensures.succeeds;
       laws = laws c.args.bytes.now (client_of c.args.self.now);
       heard = laws-heard c.args.bytes.now (client_of c.args.self.now);
     }

@@ -15,7 +15,7 @@ write-requires c =
     let e : cursor_of c.copy.new.self ≡ copied_to (cursor_of c.turn.new.self) (length (keeping c.args.clock (table_in c.args.table.now) (length c.args.table.now))) = c.copy.ensures.copied.cursor in
     let n : (cursor_of c.copy.new.self).count ≡ length (keeping c.args.clock (table_in c.args.table.now) (length c.args.table.now)) = ap (λ (v : Cursor). v.count) e in
     let f : (cursor_of c.copy.new.self).first ≡ suc c.args.self.now.highest = ap (λ (v : Cursor). v.first) e ∙ ap (λ (v : Cursor). v.first) c.turn.ensures.cursor in
-    record { room = omega (arith, c.count-kept-kept.ensures.value, c.count-kept-kept.ensures.bound, c.requires); early = omega (arith, c.count-kept-kept.ensures.value, c.if-self-kept.false) }
+    record { room = omega (arith, c.count_kept-kept.ensures.value, c.count_kept-kept.ensures.bound, c.requires); early = omega (arith, c.count_kept-kept.ensures.value, c.if-self-kept.false) }
 
 pub returns : goal.returns
 returns c =
@@ -26,7 +26,7 @@ returns c =
     let ks : List Lease = keeping c.args.clock (table_in c.args.table.now) (length c.args.table.now) in
     let t : cursor_of turned ≡ record { side = other (cursor_of before).side; first = suc before.highest; count = 0; base = length ks; highest = before.highest } =
     c.turn.ensures.cursor
-    ∙ ap (λ (b : ℕ). record { side = other (cursor_of before).side; first = suc before.highest; count = 0; base = b; highest = before.highest }) c.count-kept-kept.ensures.value in
+    ∙ ap (λ (b : ℕ). record { side = other (cursor_of before).side; first = suc before.highest; count = 0; base = b; highest = before.highest }) c.count_kept-kept.ensures.value in
     let above : (cursor_of turned).first ≡ suc (cursor_of turned).highest = ap (λ (v : Cursor). v.first) t ∙ sym (ap (λ (v : Cursor). suc v.highest) t) in
     let y : Copied (cursor_of turned) (vec_items turned.device) (places_of turned) (ks ++ (c.args.lease ∷ [])) (vec_items end.device) (places_of end) (cursor_of end) =
     one-copied (cursor_of turned) (vec_items turned.device) (places_of turned) above ks c.args.lease (vec_items copied.device) (places_of copied) (cursor_of copied) (vec_items end.device) (places_of end) (cursor_of end)
@@ -35,6 +35,6 @@ returns c =
     let start : end.active * 4096 ≡ end.active * 4096 + 0 = omega arith in
     other-appended before end c.args.lease _ (length c.args.table.now) c.args.clock (table_in c.args.table.now) turned c.turn.ensures.bytes t y c.write.ensures.found
     (start ∙ index_at end.active 0 end.one ∙ ap (λ (s : Side). index s 0) side)
-    (ap (λ (k : ℕ). k + 1) c.count-kept-kept.ensures.value)
-    (omega (arith, c.count-kept-kept.ensures.value, c.if-self-kept.false))
-    (omega (arith, c.count-kept-kept.ensures.value, c.count-kept-kept.ensures.bound, c.requires))
+    (ap (λ (k : ℕ). k + 1) c.count_kept-kept.ensures.value)
+    (omega (arith, c.count_kept-kept.ensures.value, c.if-self-kept.false))
+    (omega (arith, c.count_kept-kept.ensures.value, c.count_kept-kept.ensures.bound, c.requires))

@@ -16,8 +16,8 @@ loop-i-init c = (
   refl,
 )
 
-pub write-some-requires : goal.write-some-requires
-write-some-requires c =
+pub write_some-requires : goal.write_some-requires
+write_some-requires c =
     let t : Table = table_in c.args.table.now in
     let all : ℕ = length (keeping c.args.clock t (length c.args.table.now)) in
     let e : cursor_of c.loop-i.self ≡ copied_to (cursor_of c.args.self.now) (length (keeping c.args.clock t c.loop-i.i)) = c.loop-i.invariant.0.cursor in
@@ -30,7 +30,7 @@ write-some-requires c =
 pub loop-i-preserved : goal.loop-i-preserved
 loop-i-preserved c = (
   more-copied (cursor_of c.args.self.now) (vec_items c.args.self.now.device) (places_of c.args.self.now) c.requires.above c.args.clock (table_in c.args.table.now) c.loop-i.i c.kept.result
-      (vec_items c.loop-i.self.device) (places_of c.loop-i.self) (cursor_of c.loop-i.self) (vec_items c.write-some.new.self.device) (places_of c.write-some.new.self) (cursor_of c.write-some.new.self)
-      c.kept.ensures c.loop-i.invariant.0 c.write-some.ensures.legible c.write-some.ensures.bytes c.write-some.ensures.device c.write-some.ensures.cursor,
-  c.write-some.ensures.active ∙ c.loop-i.invariant.1,
+      (vec_items c.loop-i.self.device) (places_of c.loop-i.self) (cursor_of c.loop-i.self) (vec_items c.write_some.new.self.device) (places_of c.write_some.new.self) (cursor_of c.write_some.new.self)
+      c.kept.ensures c.loop-i.invariant.0 c.write_some.ensures.legible c.write_some.ensures.bytes c.write_some.ensures.device c.write_some.ensures.cursor,
+  c.write_some.ensures.active ∙ c.loop-i.invariant.1,
 )

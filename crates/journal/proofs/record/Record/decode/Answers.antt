@@ -7,20 +7,20 @@ use Rattle.journal.proofs.record.Record.decode.Goals as goal
 pub returns-then-place-ne28 : goal.returns-then-place-ne28
 returns-then-place-ne28 c = record { value = sym (decoded-short c.args.place.now c.if-place-ne28.true); blank = zeros-are-blank }
 
-pub returns-then-sum-read-u32 : goal.returns-then-sum-read-u32
-returns-then-sum-read-u32 c =
+pub returns-then-sum-read_u32 : goal.returns-then-sum-read_u32
+returns-then-sum-read_u32 c =
     record {
-      value = sym (decoded-unfit c.args.place.now (λ e. c.if-sum-read-u32.true (c.crc32c-sum.ensures.value ∙ e ∙ sym c.read-u32.ensures)));
+      value = sym (decoded-unfit c.args.place.now (λ e. c.if-sum-read_u32.true (c.crc32c-sum.ensures.value ∙ e ∙ sym c.read_u32.ensures)));
       blank = zeros-are-blank;
     }
 
 pub returns : goal.returns
 returns c =
     let d : decoded c.args.place.now ≡ Some (fields_of c.args.place.now) =
-    decoded-fit c.args.place.now c.if-place-ne28.false (sym c.crc32c-sum.ensures.value ∙ c.if-sum-read-u32.false ∙ c.read-u32.ensures) in
-    let e1 = c.read-u64.ensures in
-    let e2 = c.read-u16.ensures in
-    let e3 = c.read-u16-2.ensures in
-    let e4 = c.read-u32-2.ensures in
-    let e5 = c.read-u64-2.ensures in
+    decoded-fit c.args.place.now c.if-place-ne28.false (sym c.crc32c-sum.ensures.value ∙ c.if-sum-read_u32.false ∙ c.read_u32.ensures) in
+    let e1 = c.read_u64.ensures in
+    let e2 = c.read_u16.ensures in
+    let e3 = c.read_u16-2.ensures in
+    let e4 = c.read_u32-2.ensures in
+    let e5 = c.read_u64-2.ensures in
     record { value = cc; blank = zeros-are-blank }

@@ -9,8 +9,8 @@ returns-in-Some c =
     let e : Some c.in-Some.a ≡ choose c.args.self.now.addresses c.args.clock.ticks (table_of (vec_items c.args.self.now.leases)) c.args.request = search rules in
     record { value = e; laws = laws _ _ _ _ _ e }
 
-pub returns-then-is-free : goal.returns-then-is-free
-returns-then-is-free c =
+pub returns-then-is_free : goal.returns-then-is_free
+returns-then-is_free c =
     let e : Some c.args.request.preferred ≡ choose c.args.self.now.addresses c.args.clock.ticks (table_of (vec_items c.args.self.now.leases)) c.args.request = search rules in
     record { value = e; laws = laws _ _ _ _ _ e }
 

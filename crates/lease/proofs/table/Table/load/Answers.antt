@@ -7,16 +7,16 @@ use Rattle.lease.proofs.Places.{at-home-address, table-past, set_here, set_below
 use Rattle.lease.proofs.table.Table.load.Goals as goal
 
 pub put-requires : goal.put-requires
-put-requires c = (omega (arith, c.loop-a-test.true, c.loop-a.invariant.1), λ l e. at-home-address c.loop-a.a _ l (sym c.at-home.ensures ∙ e))
+put-requires c = (omega (arith, c.loop-a-test.true, c.loop-a.invariant.1), λ l e. at-home-address c.loop-a.a _ l (sym c.at_home.ensures ∙ e))
 
 pub loop-a-preserved : goal.loop-a-preserved
 loop-a-preserved c =
     let h : c.loop-a.a < length (vec_items c.loop-a.self.leases) = omega (arith, c.loop-a.self.leases.ok.0) in
-    let e : vec_items c.put.new.self.leases ≡ set (vec_items c.loop-a.self.leases) c.loop-a.a c.at-home.result = c.put.ensures.leases in (
+    let e : vec_items c.put.new.self.leases ≡ set (vec_items c.loop-a.self.leases) c.loop-a.a c.at_home.result = c.put.ensures.leases in (
       below_more _ _
-          (λ k l. ap (λ (xs : List (Option Lease)). table_of xs k) e ∙ set_below (vec_items c.loop-a.self.leases) c.loop-a.a k c.at-home.result l ∙ c.loop-a.invariant.0 k l)
+          (λ k l. ap (λ (xs : List (Option Lease)). table_of xs k) e ∙ set_below (vec_items c.loop-a.self.leases) c.loop-a.a k c.at_home.result l ∙ c.loop-a.invariant.0 k l)
           (ap (λ (xs : List (Option Lease)). table_of xs c.loop-a.a) e
-          ∙ set_here (vec_items c.loop-a.self.leases) c.loop-a.a c.at-home.result h ∙ c.at-home.ensures ∙ sym (cond-true _ _ _ (lt-ltb _ _ c.loop-a-test.true))),
+          ∙ set_here (vec_items c.loop-a.self.leases) c.loop-a.a c.at_home.result h ∙ c.at_home.ensures ∙ sym (cond-true _ _ _ (lt-ltb _ _ c.loop-a-test.true))),
       c.put.ensures.addresses ∙ c.loop-a.invariant.1,
     )
 

@@ -5,13 +5,13 @@ use Rattle.lease.proofs.Options.{none_only}
 use Rattle.lease.proofs.Places.{table-new, placed-empty, labels-empty}
 use Rattle.lease.proofs.table.Table.new.Goals as goal
 
-pub invariant-of-result : goal.invariant-of-result
-invariant-of-result c =
-    let e : vec_items c.in-ok-leases.leases ≡ replicate c.args.settings.addresses None = c.in-ok-leases.ensures.items-if-clones-equal (none_only _ (λ x k. k)) in
-    let t : table_of (vec_items c.in-ok-leases.leases) ≡ empty = ap (λ (xs : List (Option Lease)). table_of xs) e ∙ table-new c.args.settings.addresses in
+pub invariant_of-result : goal.invariant_of-result
+invariant_of-result c =
+    let e : vec_items c.in_ok-leases.leases ≡ replicate c.args.settings.addresses None = c.in_ok-leases.ensures.items-if-clones-equal (none_only _ (λ x k. k)) in
+    let t : table_of (vec_items c.in_ok-leases.leases) ≡ empty = ap (λ (xs : List (Option Lease)). table_of xs) e ∙ table-new c.args.settings.addresses in
     (search rules, (subst (λ (x : Table). Placed x) (sym t) placed-empty, (search rules, (labels-empty _ _ t, tt))))
 
 pub returns : goal.returns
 returns c =
-    let e : vec_items c.in-ok-leases.leases ≡ replicate c.args.settings.addresses None = c.in-ok-leases.ensures.items-if-clones-equal (none_only _ (λ x k. k)) in
+    let e : vec_items c.in_ok-leases.leases ≡ replicate c.args.settings.addresses None = c.in_ok-leases.ensures.items_if_clones_equal (none_only _ (λ x k. k)) in
     (ap (λ (xs : List (Option Lease)). table_of xs) e ∙ table-new c.args.settings.addresses, refl)

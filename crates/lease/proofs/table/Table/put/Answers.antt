@@ -2,8 +2,8 @@ use Rattle.std.proofs.Common.{◌<◌, length, vec_items, arith}
 use Rattle.lease.proofs.Places.{labels-put, placed-put}
 use Rattle.lease.proofs.table.Table.put.Goals as goal
 
-pub invariant-of-self : goal.invariant-of-self
-invariant-of-self c =
+pub invariant_of-self : goal.invariant_of-self
+invariant_of-self c =
     let h : c.args.address < length (vec_items c.args.self.now.leases) = omega (arith, c.args.self.now.leases.ok.0) in
     let g : c.args.address < length (vec_items c.args.self.now.clients) = omega (arith, c.args.self.now.clients.ok.0) in (
       c.args.self.now.sized,

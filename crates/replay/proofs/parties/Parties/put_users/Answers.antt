@@ -8,8 +8,8 @@ loop-place-init c = users-start (parties_of c.args.self.now) (vec_items c.args.o
 
 pub loop-place-preserved : goal.loop-place-preserved
 loop-place-preserved c =
-    users-turn (parties_of c.args.self.now) c.loop-place.place (vec_items c.loop-place.out) (vec_items c.put-user.new.out) _ c.loop-place-test.true c.loop-place.invariant
-    c.in-ok-put-user.ensures
+    users-turn (parties_of c.args.self.now) c.loop-place.place (vec_items c.loop-place.out) (vec_items c.put_user.new.out) _ c.loop-place-test.true c.loop-place.invariant
+    c.in_ok-put_user.ensures
 
 pub returns : goal.returns
 returns c = users-end (parties_of c.args.self.now) c.loop-place.place (vec_items c.loop-place.out) _ c.loop-place-test.false c.loop-place.invariant

@@ -10,13 +10,13 @@ loop-other-init c = lowest_start (rival (parties_of c.args.self.now) c.args.plac
 pub loop-other-preserved : goal.loop-other-preserved
 loop-other-preserved c =
     let test : ℕ → Bool = rival (parties_of c.args.self.now) c.args.place c.args.address in
-    let e : test c.loop-other.other ≡ false = cc c.if-is-rival.ensures in
+    let e : test c.loop-other.other ≡ false = cc c.if-is_rival.ensures in
     c.loop-other.invariant ∙ lowest-next test c.loop-other.other 65 c.loop-other-test.true e
 
-pub returns-then-is-rival : goal.returns-then-is-rival
-returns-then-is-rival c =
+pub returns-then-is_rival : goal.returns-then-is_rival
+returns-then-is_rival c =
     let test : ℕ → Bool = rival (parties_of c.args.self.now) c.args.place c.args.address in
-    let e : test c.loop-other.other ≡ true = cc c.if-is-rival.ensures in
+    let e : test c.loop-other.other ≡ true = cc c.if-is_rival.ensures in
     record { value = sym (c.loop-other.invariant ∙ lowest-here test c.loop-other.other 65 c.loop-other-test.true e); below = c.loop-other-test.true }
 
 pub returns : goal.returns

@@ -7,7 +7,7 @@ use Rattle.replay.proofs.run.Run.put_use.Goals as goal
 
 pub returns : goal.returns
 returns c =
-    c.in-ok-put-users.ensures
-    ∙ ap (λ (l : List Line). l ++ user_lines (parties_of c.args.self.now.parties) 0 65) c.in-ok-push.ensures.items
+    c.in_ok-put_users.ensures
+    ∙ ap (λ (l : List Line). l ++ user_lines (parties_of c.args.self.now.parties) 0 65) c.in_ok-push.ensures.items
     ∙ append_assoc (vec_items c.args.out.now) (Tick c.ticks.result ∷ []) (user_lines (parties_of c.args.self.now.parties) 0 65)
     ∙ ap (λ (n : ℕ). vec_items c.args.out.now ++ (Tick n ∷ user_lines (parties_of c.args.self.now.parties) 0 65)) (c.ticks.ensures ∙ c.clock.ensures)

@@ -13,13 +13,13 @@ use Rattle.replay.proofs.watch.Watch.note.Goals as goal
 
 pub returns : goal.returns
 returns c = λ bs e.
-    let q : requests_of c.note-requests-of.new.requests ≡ requests_by (event_of c.args.listener bs) c.args.said.now ++ requests_of c.args.self.now.requests = c.in-ok-note-requests-of.ensures bs in
-    let g : grants_of c.note-grants-of.new.grants ≡ grants_by (event_of c.args.listener bs) c.args.said.now ++ grants_of c.args.self.now.grants = c.in-ok-note-grants-of.ensures bs in
-    let n : nonces_of c.note-nonce.new.nonces ≡ drawn (event_of c.args.listener bs) ++ nonces_of c.args.self.now.nonces =
-    c.in-ok-note-nonce.ensures ∙ ap (λ (l : List ℕ). l ++ nonces_of c.args.self.now.nonces) (c.drawn.ensures bs e) in
-    let k : option_map settings_of c.or-first-self.result ≡ or_first (option_map settings_of c.args.self.now.settings) (knows (event_of c.args.listener bs) (parties_of c.args.parties.now)) =
-    c.or-first-self.ensures ∙ ap (λ (o : Option model.Settings). or_first (option_map settings_of c.args.self.now.settings) o) (c.settings.ensures bs) in
-    let d : leads_of (vec_items (with_items c.args.self.now.leads c.note-leads.new.leads)) ≡ leads_after (is_judged c.args.moment) (event_of c.args.listener bs) (parties_of c.args.parties.now) (leads_of (vec_items c.args.self.now.leads)) =
-    ap (λ (l : List (Option Lead)). leads_of l) (with_items_is c.args.self.now.leads c.note-leads.new.leads (omega (arith, c.note-leads.auto.leads, c.deref-mut.ensures.len))) ∙ c.note-leads.ensures bs e
-    ∙ ap (λ (l : List (Option Lead)). leads_after (is_judged c.args.moment) (event_of c.args.listener bs) (parties_of c.args.parties.now) (leads_of l)) c.deref-mut.ensures.value in
+    let q : requests_of c.note_requests_of.new.requests ≡ requests_by (event_of c.args.listener bs) c.args.said.now ++ requests_of c.args.self.now.requests = c.in_ok-note_requests_of.ensures bs in
+    let g : grants_of c.note_grants_of.new.grants ≡ grants_by (event_of c.args.listener bs) c.args.said.now ++ grants_of c.args.self.now.grants = c.in_ok-note_grants_of.ensures bs in
+    let n : nonces_of c.note_nonce.new.nonces ≡ drawn (event_of c.args.listener bs) ++ nonces_of c.args.self.now.nonces =
+    c.in_ok-note_nonce.ensures ∙ ap (λ (l : List ℕ). l ++ nonces_of c.args.self.now.nonces) (c.drawn.ensures bs e) in
+    let k : option_map settings_of c.or_first-self.result ≡ or_first (option_map settings_of c.args.self.now.settings) (knows (event_of c.args.listener bs) (parties_of c.args.parties.now)) =
+    c.or_first-self.ensures ∙ ap (λ (o : Option model.Settings). or_first (option_map settings_of c.args.self.now.settings) o) (c.settings.ensures bs) in
+    let d : leads_of (vec_items (with_items c.args.self.now.leads c.note_leads.new.leads)) ≡ leads_after (is_judged c.args.moment) (event_of c.args.listener bs) (parties_of c.args.parties.now) (leads_of (vec_items c.args.self.now.leads)) =
+    ap (λ (l : List (Option Lead)). leads_of l) (with_items_is c.args.self.now.leads c.note_leads.new.leads (omega (arith, c.note_leads.auto.leads, c.deref_mut.ensures.len))) ∙ c.note_leads.ensures bs e
+    ∙ ap (λ (l : List (Option Lead)). leads_after (is_judged c.args.moment) (event_of c.args.listener bs) (parties_of c.args.parties.now) (leads_of l)) c.deref_mut.ensures.value in
     watch-parts q g n k d

@@ -4,8 +4,8 @@ use Rattle.seen.specs.Stamp.{width}
 use Rattle.seen.proofs.Chains.{linked-none, headed-none}
 use Rattle.seen.proofs.seen.Seen.new.Goals as goal
 
-pub invariant-of-result : goal.invariant-of-result
-invariant-of-result c =
+pub invariant_of-result : goal.invariant_of-result
+invariant_of-result c =
     let none : length (vec_items c.new.result) ≡ 0 = ap (λ (xs : List Stamp). length xs) c.new.ensures.items in
-    let e : vec_items c.in-ok-heads.heads ≡ replicate width 0 = c.in-ok-heads.ensures.items-if-clones-equal (λ y k. k) in
+    let e : vec_items c.in_ok-heads.heads ≡ replicate width 0 = c.in_ok-heads.ensures.items-if-clones-equal (λ y k. k) in
     (search rules, (search rules, (linked-none _ _ none, (headed-none _ _ none e, tt))))

@@ -7,8 +7,8 @@ use Rattle.seen.proofs.Chains.{linked-push, headed-push}
 use Rattle.seen.proofs.Members.{reverse-push}
 use Rattle.seen.proofs.seen.Seen.put.Goals as goal
 
-pub invariant-of-self : goal.invariant-of-self
-invariant-of-self c =
+pub invariant_of-self : goal.invariant_of-self
+invariant_of-self c =
     let xs : List Stamp = vec_items c.args.self.now.stamps in
     let ls : List ℕ = vec_items c.args.self.now.links in
     let hs : List ℕ = vec_items c.args.self.now.heads in
@@ -20,16 +20,16 @@ invariant-of-self c =
     ∙ ap (λ (n : ℕ). newest (bucket_at xs) n (length xs)) c.bucket-bucket.ensures.value in
     let long : length ls ≡ length xs = sym c.args.self.now.links.ok.0 ∙ c.args.self.now.paired ∙ c.args.self.now.stamps.ok.0 in
     let count : c.len.result ≡ length xs + 1
-    = c.len.ensures ∙ c.push-reserved-2.ensures.len ∙ ap (λ (n : ℕ). n + 1) c.args.self.now.stamps.ok.0 in (
+    = c.len.ensures ∙ c.push_reserved-2.ensures.len ∙ ap (λ (n : ℕ). n + 1) c.args.self.now.stamps.ok.0 in (
       search rules,
       (
         c.args.self.now.wide,
         (
-          linked-push xs _ ls _ c.args.stamp _ c.push-reserved-2.ensures.items c.push-reserved.ensures.items long head c.args.self.now.linked,
-          (headed-push xs _ hs c.args.stamp b c.len.result c.push-reserved-2.ensures.items wide c.bucket-bucket.ensures.below c.bucket-bucket.ensures.value count c.args.self.now.headed, tt),
+          linked-push xs _ ls _ c.args.stamp _ c.push_reserved-2.ensures.items c.push_reserved.ensures.items long head c.args.self.now.linked,
+          (headed-push xs _ hs c.args.stamp b c.len.result c.push_reserved-2.ensures.items wide c.bucket-bucket.ensures.below c.bucket-bucket.ensures.value count c.args.self.now.headed, tt),
         ),
       ),
     )
 
 pub returns : goal.returns
-returns c = ap (λ (ys : List Stamp). reverse ys) c.push-reserved-2.ensures.items ∙ reverse-push (vec_items c.args.self.now.stamps) c.args.stamp
+returns c = ap (λ (ys : List Stamp). reverse ys) c.push_reserved-2.ensures.items ∙ reverse-push (vec_items c.args.self.now.stamps) c.args.stamp

@@ -14,13 +14,13 @@ comes : (c : goal.After-told) → Comes c.args.journal.now (state_by c.args.self
     (reads (settings_of c.args.self.now.keeper.settings) c.args.clock.ticks (state_by c.args.self.now.keeper c.args.journal.now)) c.told.result c.recover.new.self (state_by c.restart.new.self c.recover.new.self)
 comes c =
     let xs : List (Option Lease) = c.recover.new.table in
-    let n : length xs ≡ c.args.self.now.places.len = omega (arith, c.deref-mut.ensures.len, c.args.self.now.places.ok.0) in
+    let n : length xs ≡ c.args.self.now.places.len = omega (arith, c.deref_mut.ensures.len, c.args.self.now.places.ok.0) in
     let e : c.deref.result.now ≡ xs = c.deref.ensures.value ∙ with_items_is c.args.self.now.places xs n in
     has-read c.args.self.now.keeper c.load.new.self c.restart.new.self c.args.journal.now c.recover.new.self xs c.args.clock.ticks _ c.told.result
     (n ∙ c.args.self.now.sized) c.recover.ensures.device c.recover.ensures.journal c.recover.ensures.table
     (c.told.ensures.file (Some (settings_of c.args.self.now.keeper.settings)) c.args.journal.now c.recover.new.self (state_by c.args.self.now.keeper c.args.journal.now) c.recover.ensures.device)
     (subst (λ (ys : List (Option Lease)). KeeperLoaded ys c.args.self.now.keeper c.load.new.self) e c.load.ensures)
-    (c.read-as-found.ensures ∙ ap (λ (f : Found). missing f) c.recover.ensures.found) c.restart.ensures (c.told.ensures.effects ∙ ap (λ (o : Option ℕ). tells o) c.silent.ensures)
+    (c.read_as-found.ensures ∙ ap (λ (f : Found). missing f) c.recover.ensures.found) c.restart.ensures (c.told.ensures.effects ∙ ap (λ (o : Option ℕ). tells o) c.silent.ensures)
 
 pub returns : goal.returns
 returns c =

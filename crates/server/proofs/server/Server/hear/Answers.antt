@@ -6,10 +6,10 @@ use Rattle.server.proofs.server.Server.hear.Goals as goal
 pub returns : goal.returns
 returns c =
     record {
-      state = c.hear-bytes.ensures.state;
-      out = c.hear-bytes.ensures.out;
-      succeeds = c.hear-bytes.ensures.succeeds;
-      file = c.hear-bytes.ensures.file;
+      state = c.hear_bytes.ensures.state;
+      out = c.hear_bytes.ensures.out;
+      succeeds = c.hear_bytes.ensures.succeeds;
+      file = c.hear_bytes.ensures.file;
       orderly = steps-orderly (state_of c.args.self.now) c.args.bytes.now;
       refines = step-refines;
     }

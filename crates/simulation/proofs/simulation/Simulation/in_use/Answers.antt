@@ -11,5 +11,5 @@ returns-then-client-len c =
 
 pub returns : goal.returns
 returns c =
-    c.in-use.ensures ∙ ap (λ (x : Holding). (holding_of x).uses) c.holding.ensures
+    c.in_use.ensures ∙ ap (λ (x : Holding). (holding_of x).uses) c.holding.ensures
     ∙ sym (ap (λ (x : world.Client). x.holding.uses) (client-read (vec_items c.args.self.now.clients) c.args.client _ (omega (arith, c.args.self.now.clients.ok.0)) c.index-x.ensures))

@@ -12,13 +12,13 @@ use Rattle.simulation.proofs.simulation.Simulation.pass.Goals as goal
 pub returns : goal.returns
 returns c =
     let xs : List Holder = vec_items c.args.self.now.clients in
-    let P : List Holder → Type 0 = λ l. (i : ℕ) → i < length l → clients_of c.pass-all.new.clients i ≡ client_passes (get_or c.args.ticks.now i 0) (clients_of l i) in
+    let P : List Holder → Type 0 = λ l. (i : ℕ) → i < length l → clients_of c.pass_all.new.clients i ≡ client_passes (get_or c.args.ticks.now i 0) (clients_of l i) in
     record {
       step = ap (λ (l : List Holder). whole (server_of c.pass.new.self) (clients_of l) (messages_of (vec_items c.args.self.now.sent)))
-          (with_items_is c.args.self.now.clients c.pass-all.new.clients (omega (arith, c.deref-mut.ensures.len, c.args.self.now.clients.ok.0)))
-          ∙ pass_step (server_of c.args.self.now.keeper) (server_of c.pass.new.self) xs c.pass-all.new.clients (messages_of (vec_items c.args.self.now.sent))
-          c.args.server c.args.ticks.now c.in-Ok.ensures.1 (omega (arith, c.deref-mut.ensures.len, c.args.self.now.clients.ok.0))
-          (subst P c.deref-mut.ensures.value c.pass-all.ensures);
+          (with_items_is c.args.self.now.clients c.pass_all.new.clients (omega (arith, c.deref_mut.ensures.len, c.args.self.now.clients.ok.0)))
+          ∙ pass_step (server_of c.args.self.now.keeper) (server_of c.pass.new.self) xs c.pass_all.new.clients (messages_of (vec_items c.args.self.now.sent))
+          c.args.server c.args.ticks.now c.in-Ok.ensures.1 (omega (arith, c.deref_mut.ensures.len, c.args.self.now.clients.ok.0))
+          (subst P c.deref_mut.ensures.value c.pass_all.ensures);
       settings = ap (λ (s : Settings). settings_of s) c.in-Ok.ensures.0;
       clients = search rules;
     }

@@ -13,10 +13,10 @@ pub returns-in-Granted : goal.returns-in-Granted
 returns-in-Granted c =
     record {
       step = grant-step (settings_of c.args.self.now.keeper.settings) (server_of c.args.self.now.keeper) (server_of c.request.new.self) (clients_of (vec_items c.args.self.now.clients))
-          c.in-Request.request c.in-Granted.grant (vec_items c.args.self.now.sent) (vec_items c.push-reserved.new.self) _
+          c.in-Request.request c.in-Granted.grant (vec_items c.args.self.now.sent) (vec_items c.push_reserved.new.self) _
           (ap (λ (m : Sent). Some (message_of m)) (sym c.in-Request.is) ∙ c.in-Some.ensures ∙ ap (λ (l : List Sent). world.sent c.args.which (messages_of l)) c.deref.ensures.value)
           c.in-Granted.ensures.0 c.in-Granted.ensures.2
-          (c.push-reserved.ensures.items ∙ ap (λ (l : List Sent). l ++ Grant c.in-Granted.grant ∷ []) c.reserve.ensures.items);
+          (c.push_reserved.ensures.items ∙ ap (λ (l : List Sent). l ++ Grant c.in-Granted.grant ∷ []) c.reserve.ensures.items);
       settings = ap (λ (s : Settings). settings_of s) c.in-Granted.ensures.1;
       clients = refl;
     }

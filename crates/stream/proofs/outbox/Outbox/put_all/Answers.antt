@@ -7,7 +7,7 @@ use Rattle.stream.proofs.outbox.Outbox.put_all.Goals as goal
 pub loop-message-preserved : goal.loop-message-preserved
 loop-message-preserved c =
     said_more (vec_items c.args.self.now.bytes) (vec_items c.loop-message.self.bytes) (vec_items c.put.new.self.bytes) c.args.messages.now c.loop-message.message-index _ (is_ok c.put.result)
-    c.loop-message-test.true c.loop-message.invariant c.put.ensures (c.is-err.ensures.negation ∙ ap not c.if-is-err.false)
+    c.loop-message-test.true c.loop-message.invariant c.put.ensures (c.is_err.ensures.negation ∙ ap not c.if-is_err.false)
 
 pub returns : goal.returns
 returns c =

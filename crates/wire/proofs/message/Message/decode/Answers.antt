@@ -23,11 +23,11 @@ returns c =
     in
     record { value = value; law = law c.args.reader n c.args.bytes.now (λ i. (c.type-inv.bytes i).fits) c.judge.result value }
 
-pub returns-in-default : goal.returns-in-default
+pub returns-in_default : goal.returns-in_default
 unfolding read
-returns-in-default c =
+returns-in_default c =
     let n : Option ℕ = pool c.args.settings in
     let value : ◌≡◌ {A = Answer} (Err Malformed) (decoded c.args.reader n c.args.bytes.now) =
-    ap (answered c.args.reader n) c.in-default.ensures
+    ap (answered c.args.reader n) c.in_default.ensures
     in
     record { value = value; law = law c.args.reader n c.args.bytes.now (λ i. (c.type-inv.bytes i).fits) (Err Malformed) value }

@@ -13,16 +13,16 @@ counted done old new s t e f = e ∙ ap (λ (l : List ℕ). cond done (old + len
 
 pub returns : goal.returns
 returns c =
-    let done : Bool = is_ok c.extend-from-slice.result in
+    let done : Bool = is_ok c.extend_from_slice.result in
     let size : ℕ = c.frame-frame.result.len in
     let place : List ℕ = c.frame-frame.result.bytes in
     let all : size - 0 ≡ size = omega arith in
     let sent : take (size - 0) place ≡ framed (encoded c.args.self) = ap (λ (n : ℕ). take n place) all ∙ c.frame-frame.ensures.bytes in
     record {
-      items = named done (vec_items c.args.out.now) _ _ _ c.extend-from-slice.ensures.items sent;
-      len = counted done (vec_len c.args.out.now) _ _ _ c.extend-from-slice.ensures.len sent;
-      capacity = c.extend-from-slice.ensures.capacity;
-      succeeds = λ h. c.extend-from-slice.ensures.succeeds (omega (arith, ap length sent));
+      items = named done (vec_items c.args.out.now) _ _ _ c.extend_from_slice.ensures.items sent;
+      len = counted done (vec_len c.args.out.now) _ _ _ c.extend_from_slice.ensures.len sent;
+      capacity = c.extend_from_slice.ensures.capacity;
+      succeeds = λ h. c.extend_from_slice.ensures.succeeds (omega (arith, ap length sent));
       bound = omega (arith, ap length c.frame-frame.ensures.bytes, length-take size place);
       unmistakable = unmistakable c.args.self c.fits.ensures;
     }
