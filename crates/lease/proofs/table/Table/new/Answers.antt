@@ -7,9 +7,9 @@ use Rattle.lease.proofs.table.Table.new.Goals as goal
 
 pub invariant_of-result : goal.invariant_of-result
 invariant_of-result c =
-    let e : vec_items c.in_ok-leases.leases ≡ replicate c.args.settings.addresses None = c.in_ok-leases.ensures.items-if-clones-equal (none_only _ (λ x k. k)) in
+    let e : vec_items c.in_ok-leases.leases ≡ replicate c.args.settings.addresses None = c.in_ok-leases.ensures.items_if_clones_equal (none_only _ (λ x k. k)) in
     let t : table_of (vec_items c.in_ok-leases.leases) ≡ empty = ap (λ (xs : List (Option Lease)). table_of xs) e ∙ table-new c.args.settings.addresses in
-    (search rules, (subst (λ (x : Table). Placed x) (sym t) placed-empty, (search rules, (labels-empty _ _ t, tt))))
+    record { sized = search rules; placed = subst (λ (x : Table). Placed x) (sym t) placed-empty; labelled = search rules; labels = labels-empty _ _ t }
 
 pub returns : goal.returns
 returns c =

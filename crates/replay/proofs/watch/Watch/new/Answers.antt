@@ -9,4 +9,4 @@ use Rattle.replay.proofs.watch.Watch.new.Goals as goal
 pub returns : goal.returns
 returns c =
     watch-parts (ap (λ (l : List Stamp). map request_of l) c.in_ok-requests.ensures) (ap (λ (l : List Stamp). map grant_of l) c.in_ok-grants.ensures)
-    (ap (λ (l : List Stamp). nonces_in l) c.in_ok-nonces.ensures) refl (leads-new (vec_items c.in_ok-leads.leads) 65 (c.in_ok-leads.ensures.items-if-clones-equal (none_only _ (λ x k. k))))
+    (ap (λ (l : List Stamp). nonces_in l) c.in_ok-nonces.ensures) refl (leads-new (vec_items c.in_ok-leads.leads) 65 (c.in_ok-leads.ensures.items_if_clones_equal (none_only _ (λ x k. k))))

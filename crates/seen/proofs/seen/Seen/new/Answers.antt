@@ -7,5 +7,5 @@ use Rattle.seen.proofs.seen.Seen.new.Goals as goal
 pub invariant_of-result : goal.invariant_of-result
 invariant_of-result c =
     let none : length (vec_items c.new.result) ≡ 0 = ap (λ (xs : List Stamp). length xs) c.new.ensures.items in
-    let e : vec_items c.in_ok-heads.heads ≡ replicate width 0 = c.in_ok-heads.ensures.items-if-clones-equal (λ y k. k) in
-    (search rules, (search rules, (linked-none _ _ none, (headed-none _ _ none e, tt))))
+    let e : vec_items c.in_ok-heads.heads ≡ replicate width 0 = c.in_ok-heads.ensures.items_if_clones_equal (λ y k. k) in
+    record { paired = search rules; wide = search rules; linked = linked-none _ _ none; headed = headed-none _ _ none e }

@@ -20,16 +20,13 @@ invariant_of-self c =
     ∙ ap (λ (n : ℕ). newest (bucket_at xs) n (length xs)) c.bucket-bucket.ensures.value in
     let long : length ls ≡ length xs = sym c.args.self.now.links.ok.0 ∙ c.args.self.now.paired ∙ c.args.self.now.stamps.ok.0 in
     let count : c.len.result ≡ length xs + 1
-    = c.len.ensures ∙ c.push_reserved-2.ensures.len ∙ ap (λ (n : ℕ). n + 1) c.args.self.now.stamps.ok.0 in (
-      search rules,
-      (
-        c.args.self.now.wide,
-        (
-          linked-push xs _ ls _ c.args.stamp _ c.push_reserved-2.ensures.items c.push_reserved.ensures.items long head c.args.self.now.linked,
-          (headed-push xs _ hs c.args.stamp b c.len.result c.push_reserved-2.ensures.items wide c.bucket-bucket.ensures.below c.bucket-bucket.ensures.value count c.args.self.now.headed, tt),
-        ),
-      ),
-    )
+    = c.len.ensures ∙ c.push_reserved-2.ensures.len ∙ ap (λ (n : ℕ). n + 1) c.args.self.now.stamps.ok.0 in 
+    record {
+      paired = search rules;
+      wide = c.args.self.now.wide;
+      linked = linked-push xs _ ls _ c.args.stamp _ c.push_reserved-2.ensures.items c.push_reserved.ensures.items long head c.args.self.now.linked;
+      headed = headed-push xs _ hs c.args.stamp b c.len.result c.push_reserved-2.ensures.items wide c.bucket-bucket.ensures.below c.bucket-bucket.ensures.value count c.args.self.now.headed;
+    }
 
 pub returns : goal.returns
 returns c = ap (λ (ys : List Stamp). reverse ys) c.push_reserved-2.ensures.items ∙ reverse-push (vec_items c.args.self.now.stamps) c.args.stamp
