@@ -47,4 +47,4 @@ returns c =
     sym c.loop-rest.invariant.0
     ∙ (all-written c.args.form (length c.args.bytes.now) (vec_items c.loop-rest.out) c.loop-rest.rest.now c.loop-rest.run nil ∙ last)
     in
-    record { text = all; back = round_trip c.args.form c.args.bytes.now (vec_items c.write.new.out) (λ i. (c.type-inv.bytes i).fits) all }
+    record { text = all; back = round_trip c.args.form c.args.bytes.now (vec_items c.write.new.out) (λ i. (c.type_inv.bytes i).fits) all }

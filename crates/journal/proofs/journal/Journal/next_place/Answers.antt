@@ -9,4 +9,4 @@ one : Propositions struct
 one v = Also-prop (hlevel props) (λ _. Also-prop (hlevel props) (λ _. Done-prop))
 
 pub returns : goal.returns
-returns c = ((refl, λ w. values_one struct one _ _ refl), tt)
+returns c = ((refl, λ w. values_one struct one _ _ refl), record { follows = tt })

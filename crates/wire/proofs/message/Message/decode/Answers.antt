@@ -21,7 +21,7 @@ returns c =
     let value : c.judge.result ≡ decoded c.args.reader n c.args.bytes.now =
     c.judge.ensures ∙ ap (answered c.args.reader n) c.in-Some.ensures
     in
-    record { value = value; law = law c.args.reader n c.args.bytes.now (λ i. (c.type-inv.bytes i).fits) c.judge.result value }
+    record { value = value; law = law c.args.reader n c.args.bytes.now (λ i. (c.type_inv.bytes i).fits) c.judge.result value }
 
 pub returns-in_default : goal.returns-in_default
 unfolding read
@@ -30,4 +30,4 @@ returns-in_default c =
     let value : ◌≡◌ {A = Answer} (Err Malformed) (decoded c.args.reader n c.args.bytes.now) =
     ap (answered c.args.reader n) c.in_default.ensures
     in
-    record { value = value; law = law c.args.reader n c.args.bytes.now (λ i. (c.type-inv.bytes i).fits) (Err Malformed) value }
+    record { value = value; law = law c.args.reader n c.args.bytes.now (λ i. (c.type_inv.bytes i).fits) (Err Malformed) value }
