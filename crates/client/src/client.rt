@@ -5,7 +5,7 @@ ghost use Rattle.client.specs.Of.{state_of, turn_of, step_of, client_of};
 ghost use Rattle.client.specs.State.{in_use, does};
 ghost use Rattle.client.specs.Laws.{Laws};
 ghost use Rattle.client.specs.Refines.{RefinesHeard};
-ghost use Rattle.client.specs.Client.{fresh, queued, goes_on, hears, lends, lent};
+ghost use Rattle.client.specs.Client.{fresh, queued, goes_on, understood, hears, lends, lent};
 
 use crate::asking::Step;
 use crate::state::{State, Turn};

@@ -10,12 +10,12 @@ use Rattle.client.specs.Client.{Client, Step, goes_on, answers, size, hears}
 use Rattle.client.proofs.Hearing.{pool-size, heard}
 use Rattle.client.proofs.client.Client.hear_bytes.Goals as goal
 
-pub returns-in_ok-queue : goal.returns-in_ok-queue
-returns-in_ok-queue c =
+pub returns-in_ok-queue-in-Ok : goal.returns-in_ok-queue-in-Ok
+returns-in_ok-queue-in-Ok c =
     let d : Client = client_of c.queue.new.self in
     let bs : List ℕ = c.args.bytes.now in
     let e : goes_on d d.nonces (does c.in-Ok.message d.state) ≡ hears bs (client_of c.args.self.now) =
-    heard (client_of c.args.self.now) d c.in-Ok.message bs (ap state_of c.in_ok-queue.ensures.state) c.in_ok-queue.ensures.nonces
+    heard (client_of c.args.self.now) d c.in-Ok.message bs (ap state_of c.in_ok-queue-in-Ok.ensures.state) c.in_ok-queue-in-Ok.ensures.nonces
     (ap (λ (p : Option ℕ). decoded reader.Client p bs) (sym (pool-size c.args.self.now.state.settings)) ∙ sym c.decode.ensures.value ∙ c.in-Ok.is)
     in
     record {
