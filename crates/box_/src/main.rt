@@ -4,6 +4,7 @@
 mod shell;
 
 use shell::Shell;
+use std::process::ExitCode;
 use std::{env, io};
 use stream::{Halt, Outbox, Stop, serve};
 
@@ -39,11 +40,11 @@ fn borrow(rt: &HostRuntime) -> Result<(), Ended> {
     Ok(())
 }
 
-fn main(rt: HostRuntime) -> Result<(), Ended> {
-    let mut args = env::args(&rt)?;
+fn obey(rt: &HostRuntime) -> Result<(), Ended> {
+    let mut args = env::args(rt)?;
     let _program = args.next();
     let Some(word) = args.next() else {
-        return borrow(&rt);
+        return borrow(rt);
     };
     if word.as_str() == "--help" && args.next().is_none() {
         println!(rt; "{USAGE}")?;
@@ -51,4 +52,11 @@ fn main(rt: HostRuntime) -> Result<(), Ended> {
     }
     eprintln!(rt; "{USAGE}")?;
     Err(Ended)
+}
+
+fn main(rt: HostRuntime) -> ExitCode {
+    match obey(&rt) {
+        Ok(()) => ExitCode::SUCCESS,
+        Err(Ended) => ExitCode::FAILURE,
+    }
 }

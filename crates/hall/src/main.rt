@@ -263,9 +263,9 @@ fn row_at(tick: u64) -> usize {
 
 fn stopped(stop: Stop) -> anyhow::Error {
     match stop {
-        Stop::CountExhausted => "a clock would reach 2^63".into(),
-        Stop::NoSuchClient => "no such client".into(),
-        Stop::NoMemory => "out of memory".into(),
+        Stop::CountExhausted => anyhow!("a clock would reach 2^63"),
+        Stop::NoSuchClient => anyhow!("no such client"),
+        Stop::NoMemory => anyhow!("out of memory"),
     }
 }
 

@@ -4,6 +4,7 @@
 use printing::{Printer, is_two};
 use replay::{Stopped, play};
 use std::io::{Read, Write};
+use std::process::ExitCode;
 use std::{env, io};
 use system::Line;
 
@@ -56,11 +57,11 @@ fn run(rt: &HostRuntime) -> Result<(), Ended> {
     Ok(())
 }
 
-fn main(rt: HostRuntime) -> Result<(), Ended> {
-    let mut args = env::args(&rt)?;
+fn obey(rt: &HostRuntime) -> Result<(), Ended> {
+    let mut args = env::args(rt)?;
     let _program = args.next();
     let Some(word) = args.next() else {
-        return run(&rt);
+        return run(rt);
     };
     if word.as_str() == "--help" && args.next().is_none() {
         println!(rt; "{USAGE}")?;
@@ -68,4 +69,11 @@ fn main(rt: HostRuntime) -> Result<(), Ended> {
     }
     eprintln!(rt; "{USAGE}")?;
     Err(Ended)
+}
+
+fn main(rt: HostRuntime) -> ExitCode {
+    match obey(&rt) {
+        Ok(()) => ExitCode::SUCCESS,
+        Err(Ended) => ExitCode::FAILURE,
+    }
 }

@@ -12,6 +12,7 @@ use file::FileOutside;
 use server::Server;
 use shell::Shell;
 use std::io::ErrorKind;
+use std::process::ExitCode;
 use std::{env, io};
 use stream::{Halt, Outbox, Stop, serve};
 
@@ -75,8 +76,8 @@ fn lend(rt: &HostRuntime, path: &str) -> Result<(), Ended> {
     Ok(())
 }
 
-fn main(rt: HostRuntime) -> Result<(), Ended> {
-    let mut args = env::args(&rt)?;
+fn obey(rt: &HostRuntime) -> Result<(), Ended> {
+    let mut args = env::args(rt)?;
     let _program = args.next();
     let (Some(path), None) = (args.next(), args.next()) else {
         eprintln!(rt; "{USAGE}")?;
@@ -86,5 +87,12 @@ fn main(rt: HostRuntime) -> Result<(), Ended> {
         println!(rt; "{USAGE}")?;
         return Ok(());
     }
-    lend(&rt, path.as_str())
+    lend(rt, path.as_str())
+}
+
+fn main(rt: HostRuntime) -> ExitCode {
+    match obey(&rt) {
+        Ok(()) => ExitCode::SUCCESS,
+        Err(Ended) => ExitCode::FAILURE,
+    }
 }

@@ -21,6 +21,7 @@ use printing::Printer;
 use run::run;
 use show::show;
 use std::io::Write;
+use std::process::ExitCode;
 use std::{env, io};
 use system::Line;
 use tally::Tally;
@@ -94,8 +95,8 @@ fn refuse(rt: &HostRuntime) -> Result<(), Ended> {
     Err(Ended)
 }
 
-fn main(rt: HostRuntime) -> Result<(), Ended> {
-    let mut args = env::args(&rt)?;
+fn obey(rt: &HostRuntime) -> Result<(), Ended> {
+    let mut args = env::args(rt)?;
     let _program = args.next();
     let mut numbers = [RUNS, SEED];
     for i in 0..2usize {
@@ -107,12 +108,19 @@ fn main(rt: HostRuntime) -> Result<(), Ended> {
             return Ok(());
         }
         let Ok(number) = word.as_str().parse::<u64>() else {
-            return refuse(&rt);
+            return refuse(rt);
         };
         numbers[i] = number;
     }
     if args.next().is_some() {
-        return refuse(&rt);
+        return refuse(rt);
     }
-    storm(&rt, numbers[0], numbers[1])
+    storm(rt, numbers[0], numbers[1])
+}
+
+fn main(rt: HostRuntime) -> ExitCode {
+    match obey(&rt) {
+        Ok(()) => ExitCode::SUCCESS,
+        Err(Ended) => ExitCode::FAILURE,
+    }
 }

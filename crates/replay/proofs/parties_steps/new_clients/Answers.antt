@@ -5,7 +5,7 @@ use Rattle.replay.proofs.Places.{AllNew, all-new-more}
 use Rattle.replay.proofs.parties_steps.new_clients.Goals as goal
 
 pub loop-i-init : goal.loop-i-init
-loop-i-init c = (c.new_clients.ensures.len, subst (λ (l : List code.Client). AllNew l) (sym c.new_clients.ensures.items) (λ i. refl))
+loop-i-init c = (c.new-clients.ensures.len, subst (λ (l : List code.Client). AllNew l) (sym c.new-clients.ensures.items) (λ i. refl))
 
 pub loop-i-preserved : goal.loop-i-preserved
 loop-i-preserved c =

@@ -3,4 +3,4 @@ use Rattle.replay.proofs.Places.{AllNew}
 use Rattle.replay.proofs.parties_steps.new_clients.Given as goal
 
 abbrev pub invariant-loop-i : goal.invariant-loop-i
-invariant-loop-i l = (vec_len l.clients ≡ l.-i) × AllNew (vec_items l.clients)
+invariant-loop-i l = (vec_len l.clients ≡ l._i) × AllNew (vec_items l.clients)
