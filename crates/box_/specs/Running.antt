@@ -3,7 +3,7 @@ use Rattle.std.specs.Prelude.{◌≡◌, ℕ, List, [], ◌∷◌, ◌++◌, Ok,
 use Rattle.std.proofs.Common.{sym, subst}
 use Rattle.client.specs.Client.{Client}
 use Rattle.stream.specs.declared.hearer.Stop.{Stop}
-use Rattle.box◌.specs.Hearing.{Hears, Ran}
+use Rattle.box_.specs.Hearing.{Hears, Ran}
 
 pub ran_more : (c d e : Client) (out some more : List ℕ) (ms : List (List ℕ)) (m : List ℕ)
     → Ran ms c out d some → Ran (m ∷ []) d some e more → Ran (ms ++ (m ∷ [])) c out e more

@@ -1,8 +1,8 @@
 ghost use Rattle.std.specs.Prelude.{◌≡◌};
 ghost use Rattle.client.specs.Client.{fresh};
 ghost use Rattle.client.specs.Of.{client_of};
-ghost use Rattle.box◌.specs.Hearing.{Hears, Ran};
-ghost use Rattle.box◌.specs.Running.{ran_more};
+ghost use Rattle.box_.specs.Hearing.{Hears, Ran};
+ghost use Rattle.box_.specs.Running.{ran_more};
 ghost use Rattle.std.proofs.Common.{rules};
 
 use client::Client;

@@ -1,7 +1,7 @@
 use Rattle.client.specs.Of.{client_of}
 use Rattle.std.proofs.Common.{vec_items}
-use Rattle.box◌.specs.Running.{ran_one}
-use Rattle.box◌.proofs.shell.ShellHearer.hear.Goals as goal
+use Rattle.box_.specs.Running.{ran_one}
+use Rattle.box_.proofs.shell.ShellHearer.hear.Goals as goal
 
 pub returns : goal.returns
 returns c =
