@@ -1,5 +1,5 @@
 -- One message after the other.
-use Rattle.std.specs.Prelude.{◌≡◌, ℕ, List, [], ◌∷◌, ◌++◌, Ok, Err, Result, OnOk, refl}
+use Rattle.std.specs.Prelude.{ℕ, List, [], ◌∷◌, ◌++◌, Ok, Err, Result, OnOk, refl}
 use Rattle.std.proofs.Common.{sym, subst}
 use Rattle.client.specs.Client.{Client}
 use Rattle.stream.specs.declared.hearer.Stop.{Stop}

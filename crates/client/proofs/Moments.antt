@@ -1,6 +1,6 @@
 -- What holds of a client at every moment of a run: its term is a minute at least, and a request that is due and can be sent was sent.
 -- Assumes nothing.
-use Rattle.std.proofs.Common.{◌≡◌, ℕ, ◌+◌, ◌-◌, ◌*◌, ◌^◌, ◌<◌, ◌≤◌, Bool, true, false, ◌&&◌, ltb, leb, ◌⊎◌, List, [], ◌∷◌, is_some, IfOk, Some, None, Ok, Err, Option, Result, refl, ap, ⊎_elim, arith}
+use Rattle.std.proofs.Common.{◌≡◌, ℕ, ◌+◌, ◌-◌, ◌*◌, ◌^◌, ◌<◌, ◌≤◌, Bool, true, false, ◌&&◌, ltb, leb, List, [], ◌∷◌, is_some, IfOk, Some, None, Ok, Err, Option, Result, refl, ap, ⊎_elim, arith}
 use Rattle.std.specs.Option.{option_map}
 use Rattle.std.proofs.lemmas.Bool.{cond_both, both_ways, and_parts, and_cases, lt-leb, leb-true}
 use Rattle.lease.specs.declared.fault.Fault as lease

@@ -7,7 +7,7 @@ use Rattle.lease.specs.declared.fault.Fault as lease
 use Rattle.lease.specs.declared.message.Grant as lent
 use Rattle.lease.specs.Settings as model
 use Rattle.lease.specs.Settings.{valid}
-use Rattle.lease.specs.Holding.{Use, Wait, still_used, later}
+use Rattle.lease.specs.Holding.{Use, Wait, still_used}
 use Rattle.lease.specs.World as world
 use Rattle.lease.specs.Run.{client_passes, hearing}
 use Rattle.retry.specs.declared.schedule.Schedule.{Schedule}

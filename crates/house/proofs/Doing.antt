@@ -1,11 +1,11 @@
 -- One thing done after the other.
-use Rattle.std.proofs.Common.{◌≡◌, ℕ, zero, suc, ◌+◌, ◌<◌, ◌≤◌, Bool, true, false, cond, List, [], ◌∷◌, ◌++◌, length, get_or, take, drop, Some, None, Ok, Err, Option, Result, sym, refl, ap, ◌∙◌, subst, inl, inr, add-one, arith}
+use Rattle.std.proofs.Common.{◌≡◌, ℕ, zero, suc, ◌+◌, ◌<◌, Bool, true, false, cond, List, [], ◌∷◌, ◌++◌, length, get_or, take, drop, Some, None, Ok, Err, Result, sym, refl, ap, ◌∙◌, subst, inl, inr, add-one, arith}
 use Rattle.std.proofs.lemmas.List.{append-nil, append_assoc, flat_map_more, take-append-drop, take_more}
 use Rattle.std.proofs.lemmas.Bool.{cases_eq}
 use Rattle.std.specs.List.{flat_map}
 use Rattle.server.specs.declared.effect.Effect.{Effect}
 use Rattle.stream.specs.declared.hearer.Stop.{Stop}
-use Rattle.house.specs.Acts.{Act, Wrote, Synced, Bytes, saved, saves, acts, acts_of, Grows, Partly, Does}
+use Rattle.house.specs.Acts.{Act, Bytes, saved, saves, acts, acts_of, Grows, Partly, Does}
 
 pub nothing : {O : Type 0} (did : O → List Act → Type 0) (a : O) → Grows did a [] a
 nothing did a before h = subst (did a) (sym (append-nil before)) h

@@ -1,5 +1,5 @@
 -- One message after the other.
-use Rattle.std.specs.Prelude.{◌≡◌, ℕ, List, [], ◌∷◌, ◌++◌, Ok, Err, Result, MatchResult, refl}
+use Rattle.std.specs.Prelude.{ℕ, List, [], ◌∷◌, ◌++◌, Ok, Err, Result, MatchResult, refl}
 use Rattle.std.proofs.Common.{sym, subst}
 use Rattle.server.specs.declared.server.Server.{Server}
 use Rattle.stream.specs.declared.hearer.Stop.{Stop}

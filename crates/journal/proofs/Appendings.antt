@@ -1,9 +1,9 @@
 -- What an append left, from what its steps left.
-use Rattle.std.proofs.Common.{◌≡◌, ℕ, zero, suc, ◌+◌, ◌^◌, ◌<◌, ◌≤◌, max, true, false, List, [], ◌∷◌, ◌++◌, length, set, IfOk, Some, Ok, Err, vec_items, Option, Result, sym, refl, ap, ◌∙◌, subst, ap₂, arith, length-append}
+use Rattle.std.proofs.Common.{◌≡◌, ℕ, suc, ◌+◌, ◌^◌, ◌<◌, ◌≤◌, max, true, List, [], ◌∷◌, ◌++◌, length, set, IfOk, Some, Ok, Err, vec_items, Option, Result, sym, refl, ap, ◌∙◌, subst, ap₂, arith, length-append}
 use Rattle.std.proofs.lemmas.Bool.{lt-leb}
 use Rattle.std.specs.List.{AllByRecursion as All}
 use Rattle.lease.specs.declared.fault.Fault.{Fault}
-use Rattle.lease.specs.declared.fault.Fault.TheVariants.{BadSettings, CountExhausted}
+use Rattle.lease.specs.declared.fault.Fault.TheVariants.{BadSettings}
 use Rattle.lease.specs.declared.lease.Lease.{Lease}
 use Rattle.journal.specs.declared.journal.Journal.{Journal}
 use Rattle.journal.specs.declared.state.Found.{Found}
@@ -13,9 +13,9 @@ use Rattle.journal.specs.Place.{Holds}
 use Rattle.journal.specs.Bytes.{encoded, decoded}
 use Rattle.journal.specs.Table.{Table, keeping, set as set-in}
 use Rattle.journal.specs.Device.{Side, other, Device, Choice, chosen, is_found, Cursor}
-use Rattle.journal.specs.Append.{Plan, in_row, in_other, exhausted, Write, numbered, writes, after, put, perform}
+use Rattle.journal.specs.Append.{Plan, in_row, in_other, exhausted, numbered, writes, put, perform}
 use Rattle.journal.specs.Image.{index, stored, choice_from, device_of, table_in}
-use Rattle.journal.specs.Memory.{cursor_of, choice_of, places_of, next_record, went, copied_to, Legible, Copied, Appended, Tried, AppendRefused}
+use Rattle.journal.specs.Memory.{cursor_of, choice_of, places_of, next_record, went, Legible, Copied, Appended, Tried, AppendRefused}
 use Rattle.journal.specs.Laws.{Ready}
 use Rattle.journal.specs.Promise.{planned, Gives, Stands, Outlives}
 use Rattle.journal.specs.Durable.{CutFile}

@@ -1,17 +1,17 @@
 -- An append, whole or cut: in its row, into the other row, and as the first of a table.
-use Rattle.std.proofs.Common.{◌≡◌, ℕ, zero, suc, ◌+◌, ◌<◌, ◌≤◌, min, max, Bool, true, false, cond, ◌||◌, ltb, leb, ◌⊎◌, List, [], ◌∷◌, ◌++◌, length, take, Some, None, sym, refl, ap, ◌∙◌, subst, inl, inr, arith, length-append}
-use Rattle.std.proofs.lemmas.List.{take_all, take_at, take-append-le}
-use Rattle.std.proofs.lemmas.Bool.{cond_both, cond-true, cond-false, both_ways, ltb-true, ltb-false, le-ltb, leb-true, leb-false, lt-leb, or_left, or_right, or_from, cases_eq, cases_lt, cases_Bool}
+use Rattle.std.proofs.Common.{◌≡◌, ℕ, suc, ◌+◌, ◌<◌, ◌≤◌, min, max, Bool, true, false, cond, ltb, ◌⊎◌, List, [], ◌∷◌, ◌++◌, length, take, None, sym, refl, ap, ◌∙◌, subst, inl, inr, arith, length-append}
+use Rattle.std.proofs.lemmas.List.{take_all, take_at}
+use Rattle.std.proofs.lemmas.Bool.{cond_both, cond-true, cond-false, both_ways, ltb-true, ltb-false, leb-true, leb-false, lt-leb, or_left, or_right, or_from, cases_eq, cases_lt, cases_Bool}
 use Rattle.lease.specs.declared.lease.Lease.{Lease}
 use Rattle.journal.specs.Place.{height}
 use Rattle.journal.specs.Table.{Table, empty, set, kept_of, Agree, Filed, keeping}
 use Rattle.journal.specs.Row.{Row, first, whole, table_of}
-use Rattle.journal.specs.Device.{Side, Row0, Row1, other, Device, high, Choice, Found, chosen, is_found, Cursor, fresh, cursor, leases}
-use Rattle.journal.specs.Append.{Plan, plan, last, Write, numbered, writes, after, perform}
+use Rattle.journal.specs.Device.{Side, Row0, Row1, other, Device, high, chosen, is_found, Cursor, fresh, leases}
+use Rattle.journal.specs.Append.{Plan, plan, last, writes, after, perform}
 use Rattle.journal.specs.Crash.{Cut, Whole, Untouched, Tears, Zeroes, cut_at, done, lands, Damaged}
 use Rattle.journal.specs.Laws.{Begun, Settled, Sound, Ready, AppendStands, Survives, AppendSurvives, LastIsCut}
 use Rattle.journal.proofs.Reading.{height-numbers, begun-broken, begun-below, none_read}
-use Rattle.journal.proofs.Tables.{laid, laid-push, agree-set, agree_same, filed-set, length-keeping, keeping_none, keeping-agrees}
+use Rattle.journal.proofs.Tables.{laid, laid-push, agree-set, filed-set, length-keeping, keeping_none, keeping-agrees}
 use Rattle.journal.proofs.Choosing.{settled-chosen, settled-leases, settled-cursor, damaged-found, damaged-leases, damaged-cursor, below-high, high_is, settled-high, unbegun}
 use Rattle.journal.proofs.Progress.{length-numbered, Progress, performed, cut}
 

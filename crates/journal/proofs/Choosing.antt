@@ -1,10 +1,10 @@
 -- Which row is chosen, what is recovered then, and what bounds the sequence numbers.
-use Rattle.std.proofs.Common.{◌≡◌, ℕ, zero, suc, ◌+◌, ◌-◌, ◌<◌, ◌≤◌, max, Bool, true, false, cond, ◌&&◌, ltb, leb, ◌⊎◌, sym, refl, ap, ◌∙◌, subst, inl, inr, arith}
+use Rattle.std.proofs.Common.{◌≡◌, ℕ, zero, suc, ◌+◌, ◌-◌, ◌<◌, ◌≤◌, Bool, true, false, cond, ltb, leb, sym, refl, ap, ◌∙◌, inl, inr, arith}
 use Rattle.std.proofs.lemmas.Bool.{cond-true, cond-false, both_ways, lt-ltb, le-ltb, cases_eq, cases_Bool, and_parts, and_from, and_left, lt-leb}
 use Rattle.journal.specs.Place.{Place, Blank, Torn, Holds, height, base_of}
-use Rattle.journal.specs.Table.{Table, empty}
+use Rattle.journal.specs.Table.{empty}
 use Rattle.journal.specs.Row.{Row, numbers, first, reads, whole, table_of, highest, is_blank, blank_row}
-use Rattle.journal.specs.Device.{Side, Row0, Row1, other, Device, high, blank, newer_of, newer, Choice, New, Lost, Found, choose, chosen, is_found, Cursor, fresh, cursor_at, cursor, leases_at, leases}
+use Rattle.journal.specs.Device.{Side, Row0, Row1, other, Device, high, blank, newer_of, newer, Choice, New, Lost, Found, choose, chosen, is_found, fresh, cursor_at, cursor, leases_at, leases}
 use Rattle.journal.specs.Crash.{Damaged}
 use Rattle.journal.specs.Laws.{ChoiceTells, Begun, Settled}
 use Rattle.journal.proofs.Reading.{reads-is, begun_first, begun-reads, begun-whole, begun-below}

@@ -1,5 +1,5 @@
 -- Numbers in digits and back, and records in bytes and back.
-use Rattle.std.proofs.Common.{◌≡◌, ℕ, zero, suc, ◌+◌, ◌*◌, ◌/◌, ◌%◌, ◌^◌, ◌<◌, ◌≤◌, Bool, true, false, cond, ◌&&◌, eqb, List, [], ◌∷◌, ◌++◌, length, take, drop, replicate, Some, None, Option, sym, refl, ap, ◌∙◌, subst, ap₂, mod-lt, mod-eq_of_lt, div-one, arith, length-append}
+use Rattle.std.proofs.Common.{◌≡◌, ℕ, zero, suc, ◌+◌, ◌*◌, ◌/◌, ◌%◌, ◌^◌, ◌<◌, eqb, List, [], ◌∷◌, ◌++◌, length, take, drop, replicate, Some, None, Option, sym, refl, ap, ◌∙◌, ap₂, mod-lt, mod-eq_of_lt, div-one, arith, length-append}
 use native.Mathlib.Nat.{mod-one, pow-succ', one-le-pow}
 use lib.Arith.{mod-mul}
 use lib.Seq.{paste}

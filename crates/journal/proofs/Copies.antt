@@ -1,13 +1,12 @@
 -- Leases copied one after the other into a row that was begun.
-use Rattle.std.proofs.Common.{◌≡◌, ℕ, zero, suc, ◌+◌, ◌<◌, ◌≤◌, max, List, [], ◌∷◌, ◌++◌, length, set, Some, None, Option, sym, refl, ap, ◌∙◌, subst, ap₂, add-one, arith, length-append}
+use Rattle.std.proofs.Common.{◌≡◌, ℕ, suc, ◌+◌, max, List, [], ◌∷◌, ◌++◌, length, set, Some, None, Option, sym, refl, ap, ◌∙◌, subst, ap₂, arith, length-append}
 use Rattle.std.proofs.ByRecursion.{All-push}
 use Rattle.std.specs.List.{AllByRecursion as All}
 use Rattle.lease.specs.declared.lease.Lease.{Lease}
-use Rattle.journal.specs.declared.record.Record.{Record}
 use Rattle.journal.specs.Place.{Holds}
 use Rattle.journal.specs.Bytes.{encoded, decoded}
 use Rattle.journal.specs.Table.{Table, added, keeping, kept_of}
-use Rattle.journal.specs.Device.{Side, Device, Cursor}
+use Rattle.journal.specs.Device.{Device, Cursor}
 use Rattle.journal.specs.Append.{Write, numbered, put, perform}
 use Rattle.journal.specs.Image.{index, stored}
 use Rattle.journal.specs.Memory.{next_record, went, went_with, stored_with, put_with, LegibleWith, Legible, copied_to, Copied}

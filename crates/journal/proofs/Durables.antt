@@ -1,5 +1,5 @@
 -- The device's file, made durable place by place and cut, is a device whose writes were cut.
-use Rattle.std.proofs.Common.{◌≡◌, ℕ, zero, suc, ◌+◌, ◌<◌, ◌≤◌, Bool, true, false, cond, ◌⊎◌, List, [], ◌∷◌, ◌++◌, length, get_or, take, drop, set, Some, None, vec_items, Option, sym, refl, ap, ◌∙◌, subst, ap₂, inl, inr, add-one, arith, length-append, length-set, get_or-set_other, get_or-set_same}
+use Rattle.std.proofs.Common.{◌≡◌, ℕ, zero, suc, ◌+◌, ◌<◌, ◌≤◌, Bool, true, false, cond, List, [], ◌∷◌, ◌++◌, length, get_or, take, drop, set, Some, vec_items, Option, sym, refl, ap, ◌∙◌, subst, ap₂, inl, inr, add-one, arith, length-append, length-set, get_or-set_other, get_or-set_same}
 use Rattle.std.proofs.lemmas.List.{take_more, take_all, drop_more, take-append-drop, length-take-le, set-get_or}
 use Rattle.std.proofs.lemmas.Bool.{cases_lt}
 use Rattle.std.specs.List.{AllByRecursion as All}
@@ -13,7 +13,7 @@ use Rattle.journal.specs.Device.{Side, Row0, Row1, Device}
 use Rattle.journal.specs.Append.{Plan, Write, numbered, writes, put, perform}
 use Rattle.journal.specs.Crash.{Cut, Untouched, Whole, Tears, Zeroes, cut_write, cut_at}
 use Rattle.journal.specs.Image.{index, device_of, stored}
-use Rattle.journal.specs.Memory.{Legible, places_of, Appended}
+use Rattle.journal.specs.Memory.{Legible, Appended}
 use Rattle.journal.specs.Durable.{durable, LeftByCut, CutFile}
 use Rattle.journal.proofs.Progress.{length-numbered}
 use Rattle.journal.proofs.Stores.{nth, set-place, device-set, numbered-push, stored-push}

@@ -1,5 +1,5 @@
 -- A journal in memory: rows as a cursor, and places by their index.
-use Rattle.std.proofs.Common.{◌≡◌, ℕ, zero, suc, ◌+◌, ◌*◌, ◌<◌, max, List, [], length, get_or, set, sym, refl, ap, ◌∙◌, ap₂, add-one, arith, get_or-set_same}
+use Rattle.std.proofs.Common.{◌≡◌, ℕ, zero, suc, ◌+◌, ◌*◌, ◌<◌, max, List, length, get_or, set, ap, ◌∙◌, ap₂, add-one, arith, get_or-set_same}
 use Rattle.journal.specs.declared.state.RowState.{RowState}
 use Rattle.journal.specs.Device.{Side, Cursor}
 use Rattle.journal.specs.Image.{side_of, index, unread, cursor_from}

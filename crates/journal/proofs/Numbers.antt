@@ -1,15 +1,15 @@
 -- No sequence number stands twice on a device that was never damaged.
-use Rattle.std.proofs.Common.{◌≡◌, ℕ, zero, suc, ◌+◌, ◌<◌, ◌≤◌, max, Bool, true, false, cond, ltb, ◌⊎◌, List, [], ◌∷◌, ◌++◌, sym, refl, ap, ◌∙◌, subst, inl, inr, arith}
+use Rattle.std.proofs.Common.{◌≡◌, ℕ, zero, suc, ◌+◌, ◌<◌, ◌≤◌, ltb, ◌⊎◌, List, [], ◌∷◌, sym, refl, ap, ◌∙◌, subst, inl, inr, arith}
 use Rattle.std.proofs.lemmas.Bool.{cond_both, ltb-true, cases_eq}
 use Rattle.lease.specs.declared.lease.Lease.{Lease}
 use Rattle.journal.specs.declared.record.Record.{Record}
 use Rattle.journal.specs.Place.{Place, Blank, Torn, Holds, height}
 use Rattle.journal.specs.Table.{Table}
-use Rattle.journal.specs.Device.{Side, Row0, Row1, other, Device, high, Cursor, fresh}
-use Rattle.journal.specs.Append.{Plan, plan, Write, at, put, numbered, writes, perform}
+use Rattle.journal.specs.Device.{Side, Row0, Row1, Device, high, Cursor}
+use Rattle.journal.specs.Append.{Plan, plan, at, put, numbered, perform}
 use Rattle.journal.specs.Crash.{Cut, Untouched, Whole, Tears, Zeroes, cut_at}
-use Rattle.journal.specs.Run.{Operation, Append, Crash, Restart, Clock, Damage, State, start, planned, step, run, Allowed, Each}
-use Rattle.journal.specs.Laws.{Settled, Sound, Ready, Undamaged, Distinct, NoneTwice}
+use Rattle.journal.specs.Run.{Operation, Append, Crash, Restart, Clock, Damage, State, start, step, run, Allowed, Each}
+use Rattle.journal.specs.Laws.{Sound, Ready, Undamaged, Distinct, NoneTwice}
 use Rattle.journal.proofs.Reading.{at_same, at_other}
 use Rattle.journal.proofs.Choosing.{settled-cursor, damaged-cursor, below-high, settled-high}
 use Rattle.journal.proofs.Runs as runs

@@ -1,11 +1,11 @@
 -- What a row and its table are when so many of the writes to it are done.
-use Rattle.std.proofs.Common.{◌≡◌, ℕ, zero, suc, ◌+◌, ◌<◌, ◌≤◌, min, false, ◌⊎◌, List, [], ◌∷◌, ◌++◌, length, take, sym, refl, ap, ◌∙◌, subst, inl, inr, arith}
+use Rattle.std.proofs.Common.{◌≡◌, ℕ, zero, suc, ◌+◌, min, false, ◌⊎◌, List, [], ◌∷◌, length, take, sym, refl, ap, ◌∙◌, subst, inl, inr, arith}
 use Rattle.lease.specs.declared.lease.Lease.{Lease}
 use Rattle.journal.specs.Place.{Place, Blank, Torn, Holds, height}
-use Rattle.journal.specs.Table.{Table, set}
+use Rattle.journal.specs.Table.{set}
 use Rattle.journal.specs.Row.{Row, numbers, table_of}
 use Rattle.journal.specs.Device.{Side, Row0, Row1, other, Device}
-use Rattle.journal.specs.Append.{Write, at, put, numbered, perform}
+use Rattle.journal.specs.Append.{at, put, numbered, perform}
 use Rattle.journal.specs.Crash.{Cut, Untouched, Whole, Tears, Zeroes, cut_at, done}
 use Rattle.journal.specs.Laws.{Begun}
 use Rattle.journal.proofs.Reading.{at_same, begun_more, begun-harmed, table_kept, table_more}

@@ -1,9 +1,9 @@
 -- What a row that was begun reads as, and what a write behind its last record does to it.
-use Rattle.std.proofs.Common.{◌≡◌, ℕ, zero, suc, ◌+◌, ◌<◌, ◌≤◌, Bool, true, false, cond, ◌&&◌, eqb, leb, ◌⊎◌, Some, None, sym, refl, ap, ◌∙◌, subst, inl, inr, arith}
+use Rattle.std.proofs.Common.{◌≡◌, ℕ, zero, suc, ◌+◌, ◌<◌, ◌≤◌, true, false, cond, ◌&&◌, eqb, ◌⊎◌, Some, sym, refl, ap, ◌∙◌, subst, inl, inr, arith}
 use Rattle.std.proofs.lemmas.Bool.{cond-true, cond-false, both_ways, eqb-true, eq-eqb, ne_eqb, le-leb, lt-leb, and_parts, and_cases, and_from, and_left, and_right, cases_eq, cases_Bool, cases_lt}
 use Rattle.journal.specs.declared.record.Record.{Record}
 use Rattle.journal.specs.Place.{Place, Blank, Torn, Holds, height, base_of}
-use Rattle.journal.specs.Table.{Table, empty, set}
+use Rattle.journal.specs.Table.{Table, set}
 use Rattle.journal.specs.Row.{Row, numbers, reads, first, whole, put_in, table_of}
 use Rattle.journal.specs.Append.{at}
 use Rattle.journal.specs.Laws.{Front, RowIsRead, Begun}

@@ -1,14 +1,14 @@
 -- From two rows that were read to what is recovered.
-use Rattle.std.proofs.Common.{◌≡◌, ℕ, zero, suc, ◌+◌, ◌-◌, ◌<◌, ◌≤◌, max, Bool, true, false, cond, ◌&&◌, ltb, leb, ◌⊎◌, List, [], ◌∷◌, length, get_or, sym, refl, ap, ◌∙◌, subst, ap₂, inl, inr, arith}
+use Rattle.std.proofs.Common.{◌≡◌, ℕ, zero, suc, ◌+◌, ◌-◌, ◌<◌, max, Bool, true, false, cond, ◌&&◌, ltb, leb, List, [], ◌∷◌, get_or, sym, refl, ap, ◌∙◌, subst, ap₂, arith}
 use Rattle.std.proofs.lemmas.Bool.{cond-true, cond-false, lt-ltb}
 use Rattle.journal.specs.declared.state.RowState.{RowState}
 use Rattle.journal.specs.declared.state.Found.{Found}
 use Rattle.journal.specs.declared.state.Found.TheVariants as found
 use Rattle.journal.specs.declared.scan.RowScan.{RowScan}
-use Rattle.journal.specs.Place.{Place, Blank, base_of}
+use Rattle.journal.specs.Place.{base_of}
 use Rattle.journal.specs.Bytes.{place_of}
-use Rattle.journal.specs.Row.{Row, first, reads, whole, highest, blank_row}
-use Rattle.journal.specs.Device.{Side, Row0, Row1, other, Device, high, blank, newer_of, newer, Choice, New, Lost, choose, chosen, Cursor, fresh, cursor_at, cursor}
+use Rattle.journal.specs.Row.{Row, first, reads, whole}
+use Rattle.journal.specs.Device.{Side, Row0, Row1, other, Device, high, blank, newer_of, newer, Choice, New, Lost, choose, chosen, Cursor, fresh, cursor_at}
 use Rattle.journal.specs.Image.{side_of, index, device_of, unread, cursor_from, choice_from, scanned, Knows, Recovered}
 use Rattle.journal.proofs.Scans.{scanned-same, knows}
 

@@ -1,8 +1,8 @@
 -- A table filled from the records of a row, one after the other.
-use Rattle.std.proofs.Common.{◌≡◌, ℕ, zero, suc, ◌+◌, ◌*◌, ◌<◌, ◌≤◌, Bool, true, false, cond, eqb, ltb, ◌⊎◌, List, [], length, get_or, Some, None, Option, sym, refl, ap, ◌∙◌, inl, inr, add-one, arith}
+use Rattle.std.proofs.Common.{◌≡◌, ℕ, zero, suc, ◌+◌, ◌*◌, ◌<◌, ◌≤◌, Bool, true, false, cond, eqb, List, [], length, get_or, Some, None, Option, sym, ap, ◌∙◌, inl, inr, add-one, arith}
 use Rattle.lease.specs.declared.lease.Lease.{Lease}
 use Rattle.journal.specs.declared.record.Record.{Record}
-use Rattle.journal.specs.Place.{Place, Blank, Torn}
+use Rattle.journal.specs.Place.{Place}
 use Rattle.journal.specs.Bytes.{place_from, place_of}
 use Rattle.journal.specs.Table.{Table, kept_of}
 use Rattle.journal.specs.Row.{Row, reads, put_in, table_of}

@@ -1,17 +1,16 @@
 -- A device's life: what holds at its start and stays with each operation.
-use Rattle.std.proofs.Common.{◌≡◌, ℕ, zero, suc, ◌+◌, ◌<◌, ◌≤◌, max, Bool, true, false, cond, ◌||◌, ◌⊎◌, List, [], ◌∷◌, ◌++◌, length, Some, None, Option, sym, refl, ap, ◌∙◌, subst, inl, inr, arith}
-use Rattle.std.proofs.lemmas.Bool.{cond_both, cond-true, cond-false, both_ways, or_parts, or_cases, or_left, le-leb, cases_Bool, cases_eq}
+use Rattle.std.proofs.Common.{◌≡◌, ℕ, ◌<◌, ◌≤◌, max, Bool, true, false, cond, ◌||◌, ◌⊎◌, List, [], ◌∷◌, ◌++◌, length, Some, None, sym, refl, ap, ◌∙◌, subst, inl, inr, arith}
+use Rattle.std.proofs.lemmas.Bool.{cond-true, both_ways, le-leb, cases_eq}
 use Rattle.lease.specs.declared.lease.Lease.{Lease}
 use Rattle.journal.specs.Place.{Blank}
 use Rattle.journal.specs.Table.{Table, empty, set, kept, kept_of, Agree, Filed}
-use Rattle.journal.specs.Row.{whole, table_of, highest}
-use Rattle.journal.specs.Device.{Side, Row0, Row1, Device, Choice, New, Lost, Found, high, chosen, is_found, Cursor, fresh, cursor, leases, leases_at}
-use Rattle.journal.specs.Append.{Plan, plan, writes, after, perform}
-use Rattle.journal.specs.Crash.{Cut, cut_at, lands, Damaged}
+use Rattle.journal.specs.Device.{Row0, Device, Choice, New, Lost, Found, high, chosen, is_found, Cursor, fresh, cursor, leases, leases_at}
+use Rattle.journal.specs.Append.{writes}
+use Rattle.journal.specs.Crash.{cut_at, lands, Damaged}
 use Rattle.journal.specs.Run.{Operation, Append, Crash, Restart, Clock, Damage, State, start, planned, step, run, Allowed, Each, Any}
-use Rattle.journal.specs.Laws.{Sound, Ready, Survives, Kept, AllSurvive, Spares, AnsweredStays, Writes, NoneAppears}
+use Rattle.journal.specs.Laws.{Sound, Ready, AllSurvive, Spares, AnsweredStays, Writes, NoneAppears}
 use Rattle.journal.proofs.Reading.{none_read}
-use Rattle.journal.proofs.Tables.{set_same, set_other, none-some, same_some, kept-some, agree-set, agree-later, agree-join, agree-back, agree_same, filed-empty, filed-table}
+use Rattle.journal.proofs.Tables.{set_same, set_other, none-some, same_some, kept-some, agree-set, agree-later, agree-join, filed-empty, filed-table}
 use Rattle.journal.proofs.Choosing.{damaged-found, damaged-leases, damaged-cursor, high-below}
 use Rattle.journal.proofs.Appends.{append-stands, append-survives}
 

@@ -1,13 +1,13 @@
 -- A row read in one pass, and bytes that are zeros.
-use Rattle.std.proofs.Common.{◌≡◌, ℕ, zero, suc, ◌+◌, ◌<◌, ◌≤◌, max, Bool, true, false, cond, ◌&&◌, eqb, ◌⊎◌, List, [], ◌∷◌, length, get_or, sym, refl, ap, ◌∙◌, subst, ap₂, inl, inr, add-one, arith}
-use Rattle.std.proofs.lemmas.Bool.{cond_both, cond-true, cond-false, eq-eqb, ne_eqb, and_from, and_left, and_right, cases_eq, cases_Bool}
+use Rattle.std.proofs.Common.{◌≡◌, ℕ, zero, suc, ◌+◌, ◌<◌, max, Bool, true, false, ◌&&◌, eqb, ◌⊎◌, List, [], ◌∷◌, length, get_or, sym, refl, ap, ◌∙◌, subst, ap₂, inl, inr, add-one, arith}
+use Rattle.std.proofs.lemmas.Bool.{cond-true, cond-false, eq-eqb, ne_eqb, and_from, and_left, and_right, cases_eq, cases_Bool}
 use Rattle.journal.specs.declared.record.Record.{Record}
 use Rattle.journal.specs.declared.state.RowState.{RowState}
 use Rattle.journal.specs.declared.scan.RowScan.{RowScan}
 use Rattle.journal.specs.Place.{Place, Blank, Torn, Holds, height, base_of}
 use Rattle.journal.specs.Bytes.{zeros}
 use Rattle.journal.specs.Row.{Row, numbers, first, reads, highest, is_blank, blank_row}
-use Rattle.journal.specs.Image.{unread, row_noted, noted, scanned, Knows}
+use Rattle.journal.specs.Image.{row_noted, noted, scanned, Knows}
 
 pub zeros-all : (bs : List ℕ) → ((k : ℕ) → k < length bs → get_or bs k 0 ≡ 0) → zeros bs ≡ true
 unfolding zeros

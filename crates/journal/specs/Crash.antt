@@ -1,7 +1,7 @@
 -- What a crash leaves of an append.
 -- Assumes of a write that is cut: its place has what was there, the record, or bytes that fit no sum (zeros or others); places written before it have their records.
 use Rattle.std.specs.Prelude.{◌≡◌, ℕ, zero, suc, Bool, false, List, [], ◌∷◌, nat_le}
-use Rattle.journal.specs.Place.{Place, Blank, Torn, Holds}
+use Rattle.journal.specs.Place.{Blank, Torn, Holds}
 use Rattle.journal.specs.Row.{whole}
 use Rattle.journal.specs.Device.{Side, Device}
 use Rattle.journal.specs.Append.{Write, put}

@@ -1,7 +1,7 @@
 -- The device of two rows, and what is recovered from it: which row has the table, the table, and where the next record goes.
 -- Assumes nothing.
-use Rattle.std.specs.Prelude.{ℕ, ◌+◌, max, Bool, true, false, cond, ◌&&◌, nat_le, nat_lt}
-use Rattle.journal.specs.Place.{Place, height, base_of}
+use Rattle.std.specs.Prelude.{ℕ, max, Bool, true, false, cond, ◌&&◌, nat_le, nat_lt}
+use Rattle.journal.specs.Place.{base_of}
 use Rattle.journal.specs.Table.{Table, empty}
 use Rattle.journal.specs.Row.{Row, first, reads, whole, table_of, highest, blank_row}
 

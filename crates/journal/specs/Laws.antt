@@ -1,14 +1,14 @@
 -- What the journal promises through crashes.
 -- Assumes what Crash and Run assume, and fewer addresses than a row has places.
-use Rattle.std.specs.Prelude.{◌≡◌, ℕ, suc, ◌+◌, ◌<◌, ◌≤◌, Bool, true, false, cond, ◌||◌, ◌⊎◌, List, [], ◌∷◌, ◌++◌, length, Some, None, ◌≢◌}
+use Rattle.std.specs.Prelude.{◌≡◌, ℕ, suc, ◌+◌, ◌<◌, ◌≤◌, Bool, true, false, cond, ◌||◌, ◌⊎◌, List, ◌∷◌, ◌++◌, length, Some, None, ◌≢◌}
 use Rattle.lease.specs.declared.lease.Lease.{Lease}
 use Rattle.journal.specs.declared.record.Record.{Record}
-use Rattle.journal.specs.Place.{Place, Blank, Holds, height, base_of}
-use Rattle.journal.specs.Table.{Table, empty, set, Agree, Filed}
+use Rattle.journal.specs.Place.{Blank, Holds, height, base_of}
+use Rattle.journal.specs.Table.{Table, set, Agree, Filed}
 use Rattle.journal.specs.Row.{Row, numbers, first, reads, whole}
-use Rattle.journal.specs.Device.{Side, other, Device, Choice, New, Cursor, chosen, is_found, cursor, leases}
-use Rattle.journal.specs.Append.{Plan, plan, writes, after, perform}
-use Rattle.journal.specs.Crash.{Cut, Untouched, Whole, Tears, Zeroes, cut_at, lands, Damaged}
+use Rattle.journal.specs.Device.{Side, other, Device, New, Cursor, chosen, is_found, cursor, leases}
+use Rattle.journal.specs.Append.{plan, writes, after, perform}
+use Rattle.journal.specs.Crash.{Cut, Whole, cut_at, lands, Damaged}
 use Rattle.journal.specs.Run.{Operation, Append, Crash, Restart, Clock, Damage, State, start, run, Allowed, Each, Any}
 
 -- what is read of a row is its longest front whose places have the sequence numbers from its first on

@@ -1,7 +1,6 @@
 -- How a row is read: a row is a function from its places, of which the first `R` count.
 -- Assumes nothing.
 use Rattle.std.specs.Prelude.{ℕ, zero, suc, ◌+◌, max, Bool, true, false, cond, ◌&&◌, ◌==◌, nat_le}
-use Rattle.journal.specs.declared.record.Record.{Record}
 use Rattle.journal.specs.Place.{Place, Blank, Torn, Holds, height, base_of}
 use Rattle.journal.specs.Table.{Table, empty, set}
 

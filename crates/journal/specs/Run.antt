@@ -1,10 +1,10 @@
 -- A device's life: appends, crashes and restarts, clocks that are set, and damage, in any order and number.
 -- Assumes that the pool's size stays, and of damage that it leaves neither row whole.
-use Rattle.std.specs.Prelude.{◌≡◌, ℕ, max, Bool, true, false, cond, ◌||◌, ◌⊎◌, List, [], ◌∷◌, length}
+use Rattle.std.specs.Prelude.{ℕ, max, Bool, true, false, cond, ◌||◌, ◌⊎◌, List, [], ◌∷◌, length}
 use Rattle.lease.specs.declared.lease.Lease.{Lease}
 use Rattle.journal.specs.Place.{Blank}
 use Rattle.journal.specs.Table.{Table, empty, set}
-use Rattle.journal.specs.Device.{Side, Device, Cursor, fresh, cursor, leases}
+use Rattle.journal.specs.Device.{Device, Cursor, fresh, cursor, leases}
 use Rattle.journal.specs.Append.{Plan, plan, writes, after, Write, perform}
 use Rattle.journal.specs.Crash.{Cut, cut_at, lands, Damaged}
 

@@ -2,9 +2,9 @@
 -- Assumes nothing.
 use Rattle.std.specs.Prelude.{◌≡◌, ℕ, List, [], ◌∷◌, ◌++◌, Some, None, Option}
 use Rattle.lease.specs.declared.lease.Lease.{Lease}
-use Rattle.journal.specs.Device.{Side, Row0, Row1, Device, Cursor, cursor, leases}
-use Rattle.journal.specs.Crash.{Cut, Whole, Tears}
-use Rattle.journal.specs.Run.{Operation, Append, Crash, Clock, State, start, run}
+use Rattle.journal.specs.Device.{Side, Row0, Row1, cursor, leases}
+use Rattle.journal.specs.Crash.{Whole, Tears}
+use Rattle.journal.specs.Run.{Operation, Append, Crash, Clock, start, run}
 
 -- until tick 10
 abbrev pub lent : (address client : ℕ) → Lease

@@ -1,14 +1,14 @@
 -- What the server's answer says of its state.
 -- Assumes nothing.
-use Rattle.std.proofs.Common.{◌≡◌, ℕ, Bool, true, false, cond, ◌&&◌, Some, None, Option, refl, ap}
-use Rattle.std.proofs.lemmas.Bool.{cond_both, cond-true, both_ways, and_parts}
+use Rattle.std.proofs.Common.{◌≡◌, ℕ, Bool, true, false, ◌&&◌, Some, None, Option, refl}
+use Rattle.std.proofs.lemmas.Bool.{cond_both, both_ways, and_parts}
 use Rattle.lease.specs.declared.answer.Answer.{Answer}
 use Rattle.lease.specs.declared.answer.Answer.TheVariants.{Unheard, Granted, Refused}
 use Rattle.lease.specs.declared.message.Request.{Request}
 use Rattle.lease.specs.declared.message.Grant.{Grant}
 use Rattle.lease.specs.Settings.{Settings}
 use Rattle.lease.specs.Choosing.{choose}
-use Rattle.lease.specs.World.{Server, is_silent, not_silent, lending}
+use Rattle.lease.specs.World.{Server, is_silent, not_silent}
 use Rattle.lease.specs.Run.{answered, answer_up, answer}
 
 -- a grant is of the chosen address, to who asked, by a server that lends

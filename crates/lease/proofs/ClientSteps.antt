@@ -1,12 +1,12 @@
 -- What holds at every moment holds on when a client asks, hears, starts or crashes.
 -- Assumes nothing.
-use Rattle.std.proofs.Common.{◌≡◌, ℕ, ◌+◌, ◌<◌, ◌≤◌, Bool, true, false, cond, not, ◌&&◌, ◌||◌, eqb, leb, ◌⊎◌, List, ◌∷◌, Some, None, Ok, Err, Option, Result, sym, refl, ap, ◌∙◌, subst, inl, inr, arith}
+use Rattle.std.proofs.Common.{◌≡◌, ℕ, ◌+◌, Bool, true, false, not, ◌&&◌, eqb, leb, List, ◌∷◌, Some, None, Ok, Option, Result, refl, subst, inl, inr, arith}
 use Rattle.std.proofs.lemmas.Bool.{cond_both, both_ways, eqb-true, eq-eqb, leb-true, and_parts, not-true, or_left, or_right}
 use Rattle.lease.specs.declared.fault.Fault.{Fault}
 use Rattle.lease.specs.declared.message.Request.{Request}
 use Rattle.lease.specs.declared.message.Grant.{Grant}
-use Rattle.lease.specs.Settings.{Settings, life}
-use Rattle.lease.specs.Holding.{Use, Wait, Holding, nothing, taken, taking_for, taking, settled}
+use Rattle.lease.specs.Settings.{Settings}
+use Rattle.lease.specs.Holding.{Use, Wait, Holding, taken, taking_for, settled}
 use Rattle.lease.specs.World.{Message, Requests, Grants, Server, Client, World, knowing_nothing, elem}
 use Rattle.lease.specs.Run.{with_holding, asked, held_by, hearing, with_client, requested, asks, client_hears}
 use Rattle.lease.proofs.Options.{none-some, some_same}

@@ -1,6 +1,6 @@
 -- Clocks that drift apart little meet the usual premise.
 -- Assumes nothing.
-use Rattle.std.proofs.Common.{◌≡◌, ℕ, ◌+◌, ◌-◌, ◌≤◌, Bool, true, false, cond, not, ◌&&◌, eqb, List, [], ◌∷◌, ◌++◌, Some, None, Ok, Err, Option, Result, sym, refl, ap, ◌∙◌, subst, arith}
+use Rattle.std.proofs.Common.{◌≡◌, ℕ, ◌+◌, ◌-◌, ◌≤◌, Bool, true, false, not, ◌&&◌, eqb, List, [], ◌∷◌, ◌++◌, Some, None, Ok, Err, Option, Result, sym, refl, ap, ◌∙◌, subst, arith}
 use Rattle.std.proofs.lemmas.Bool.{cond_both, cond-true, cond-false, eqb-true, eqb-false, ne_eqb, and_parts, not-true}
 use Rattle.lease.specs.declared.answer.Answer.{Answer}
 use Rattle.lease.specs.declared.answer.Answer.TheVariants.{Unheard, Granted, Refused}
@@ -10,8 +10,8 @@ use Rattle.lease.specs.Settings.{Settings}
 use Rattle.lease.specs.Table.{at}
 use Rattle.lease.specs.Holding.{Holding, taking, settled}
 use Rattle.lease.specs.World.{Message, Requests, Grants, Server, Client, World, elem, sent}
-use Rattle.lease.specs.Run.{Event, Pass, Asks, ServerHears, ServerHearsAndCrashes, ClientHears, ClientStarts, ClientCrashes, ServerCrashes, Forgets, ServerRestarts, forgets, asks, requested, answer, serves, server_hears, held_by, hearing, with_client, client_hears, step, world}
-use Rattle.lease.specs.Premise.{spares, spares_all, Stretch, Close, Onward, Forward, AllAlong}
+use Rattle.lease.specs.Run.{Event, Pass, Asks, ServerHears, ServerHearsAndCrashes, ClientHears, ClientStarts, ClientCrashes, ServerCrashes, Forgets, ServerRestarts, forgets, requested, answer, serves, server_hears, held_by, hearing, client_hears, step, world}
+use Rattle.lease.specs.Premise.{spares, spares_all, Close, Onward, Forward, AllAlong}
 use Rattle.lease.specs.Drift.{Gains, GainsAtMost, LittleDrift}
 use Rattle.lease.proofs.History.{passes-clock, client-clock, restarts-clock}
 

@@ -1,15 +1,11 @@
 -- The code is an implementation of server and client: its contracts are what the model's steps are.
 -- Assumes nothing.
-use Rattle.std.proofs.Common.{◌≡◌, ℕ, Bool, cond, Ok, Err, Option, Result, sym, refl, ap, ◌∙◌}
+use Rattle.std.proofs.Common.{Result, sym, ap, ◌∙◌}
 use Rattle.lease.specs.declared.fault.Fault.{Fault}
-use Rattle.lease.specs.declared.keeper.Keeper.{Keeper}
-use Rattle.lease.specs.declared.holder.Holder.{Holder}
-use Rattle.lease.specs.Settings.{Settings}
-use Rattle.lease.specs.World.{Server, Client, knowing_nothing}
+use Rattle.lease.specs.World.{Server, Client}
 use Rattle.lease.specs.Holding.{settled}
-use Rattle.lease.specs.Run.{server_passes, serves, crashes, restarts, answer, client_passes, asked, hearing}
-use Rattle.lease.specs.Of.{settings_of, map_ok}
-use Rattle.lease.specs.Stands.{server_of, client_of}
+use Rattle.lease.specs.Run.{server_passes, crashes}
+use Rattle.lease.specs.Stands.{client_of}
 use Rattle.lease.specs.Code.{ServerImplements, ClientImplements}
 
 pub server-implements : ServerImplements

@@ -1,8 +1,8 @@
 -- The moments of a run, and that what holds at every moment holds in every run within the premise.
 -- Assumes nothing.
-use Rattle.std.proofs.Common.{◌≡◌, ℕ, zero, suc, ◌+◌, ◌-◌, ◌<◌, ◌≤◌, Bool, true, false, cond, not, eqb, List, [], ◌∷◌, ◌++◌, Some, None, Option, sym, refl, ap, ◌∙◌, subst, inl, inr, arith}
+use Rattle.std.proofs.Common.{◌≡◌, ℕ, zero, suc, ◌+◌, ◌-◌, ◌≤◌, Bool, true, false, not, eqb, List, [], ◌∷◌, Some, None, sym, refl, ap, ◌∙◌, subst, inl, inr, arith}
 use Rattle.std.proofs.lemmas.Bool.{cond_both, cond-true, eqb-false, ne_eqb, not_from_false, and_from}
-use Rattle.lease.specs.Settings.{Settings, life, outlasts}
+use Rattle.lease.specs.Settings.{Settings, outlasts}
 use Rattle.lease.specs.World.{Message, Server, Client, World, sent}
 use Rattle.lease.specs.Run.{Event, Pass, Asks, ServerHears, ServerHearsAndCrashes, ClientHears, ClientStarts, ClientCrashes, ServerCrashes, Forgets, ServerRestarts, server_passes, client_passes, restarts, step, world}
 use Rattle.lease.specs.Premise.{spares, spares_all, Stretch, Near, Close, AllAlong, Agree, CloselyIsEnough}

@@ -1,22 +1,21 @@
 -- In a run in which the server's clock never goes back, no client ever has two live leases.
 -- Assumes nothing.
-use Rattle.std.proofs.Common.{◌≡◌, ℕ, ◌+◌, ◌<◌, ◌≤◌, Bool, true, false, cond, not, ◌&&◌, ◌||◌, List, [], ◌∷◌, Some, None, Option, sym, refl, arith}
+use Rattle.std.proofs.Common.{ℕ, ◌+◌, ◌≤◌, Bool, true, false, not, ◌&&◌, ◌||◌, List, [], ◌∷◌, Some, None, Option, sym, refl, arith}
 use Rattle.std.proofs.lemmas.Bool.{cond_both}
 use Rattle.lease.specs.declared.answer.Answer.{Answer}
 use Rattle.lease.specs.declared.answer.Answer.TheVariants.{Unheard, Granted, Refused}
 use Rattle.lease.specs.declared.message.Request.{Request}
-use Rattle.lease.specs.declared.message.Grant.{Grant}
 use Rattle.lease.specs.Settings.{Settings, life}
-use Rattle.lease.specs.Table.{Table, empty, OneEach, Pooled}
+use Rattle.lease.specs.Table.{empty, OneEach, Pooled}
 use Rattle.lease.specs.Choosing.{Chosen}
 use Rattle.lease.specs.World.{Message, Requests, Grants, Server, World, is_silent, elem, sent}
-use Rattle.lease.specs.Run.{Event, Pass, Asks, ServerHears, ServerHearsAndCrashes, ClientHears, ClientStarts, ClientCrashes, ServerCrashes, Forgets, ServerRestarts, over, forgets, requested, asks, answer, serves, server_hears, client_hears, step, world}
+use Rattle.lease.specs.Run.{Event, Pass, Asks, ServerHears, ServerHearsAndCrashes, ClientHears, ClientStarts, ClientCrashes, ServerCrashes, Forgets, ServerRestarts, over, requested, answer, serves, server_hears, client_hears, step, world}
 use Rattle.lease.specs.Premise.{Onward, Forward}
 use Rattle.lease.specs.Promise.{OneLeaseEach}
 use Rattle.lease.proofs.Options.{none-some}
 use Rattle.lease.proofs.Choosing.{laws}
 use Rattle.lease.proofs.Tidy.{one-empty, one_later, one_written, one-forgotten, forgotten-from, pooled-written}
-use Rattle.lease.proofs.Answers.{GrantedBy, Meant, meant}
+use Rattle.lease.proofs.Answers.{Meant, meant}
 
 pub record Tidy (s : Settings) (v : Server) : Type 0 where
   pub pooled : Pooled s.addresses v.table

@@ -1,6 +1,6 @@
 -- What holds at every moment holds on when time passes.
 -- Assumes nothing.
-use Rattle.std.proofs.Common.{◌≡◌, ℕ, ◌+◌, ◌<◌, ◌≤◌, Bool, true, false, cond, ◌&&◌, ltb, leb, Some, None, Option, refl, inl, arith}
+use Rattle.std.proofs.Common.{◌≡◌, ℕ, ◌+◌, ◌<◌, ◌≤◌, Bool, true, ltb, leb, Some, None, Option, refl, inl, arith}
 use Rattle.std.proofs.lemmas.Bool.{cond_both, both_ways, leb-true, ltb-true, and_parts}
 use Rattle.lease.specs.Settings.{Settings, life}
 use Rattle.lease.specs.Table.{Table, empty}

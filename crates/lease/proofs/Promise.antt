@@ -1,9 +1,9 @@
 -- The promises, from what holds at every moment.
 -- Assumes nothing.
-use Rattle.std.proofs.Common.{◌≡◌, ℕ, ◌+◌, ◌<◌, ◌≤◌, Bool, true, false, cond, not, ◌&&◌, eqb, leb, List, ◌∷◌, Some, None, Option, Result, sym, refl, ap, ◌∙◌, arith}
+use Rattle.std.proofs.Common.{◌≡◌, ℕ, ◌+◌, ◌≤◌, true, false, not, ◌&&◌, eqb, leb, List, Some, None, Option, Result, sym, refl, ap, ◌∙◌, arith}
 use Rattle.std.proofs.lemmas.Bool.{cond-true, eq-eqb, le-leb, and_from, not_from_false}
 use Rattle.lease.specs.declared.answer.Answer.{Answer}
-use Rattle.lease.specs.declared.answer.Answer.TheVariants.{Unheard, Granted, Refused}
+use Rattle.lease.specs.declared.answer.Answer.TheVariants.{Unheard, Granted}
 use Rattle.lease.specs.declared.fault.Fault.{Fault}
 use Rattle.lease.specs.declared.lease.Lease.{Lease}
 use Rattle.lease.specs.declared.message.Request.{Request}
@@ -11,16 +11,15 @@ use Rattle.lease.specs.declared.message.Grant.{Grant}
 use Rattle.lease.specs.Settings.{Settings}
 use Rattle.lease.specs.Table.{owned}
 use Rattle.lease.specs.Choosing.{choose, Chosen}
-use Rattle.lease.specs.Holding.{Use, Wait, Holding, taken, taking_for, taking, settled}
-use Rattle.lease.specs.World.{Message, Grants, Server, Client, World, lending, elem, sent}
-use Rattle.lease.specs.Run.{Event, Asks, ServerHears, ClientHears, answered, answer_up, answer, held_by, hearing, requested, replied, client_hears, step, world}
+use Rattle.lease.specs.Holding.{Wait, Holding, taken, taking_for, settled}
+use Rattle.lease.specs.World.{Server, Client, World, lending, elem, sent}
+use Rattle.lease.specs.Run.{Event, Asks, ServerHears, ClientHears, answered, answer_up, answer, held_by, hearing, requested, replied, step, world}
 use Rattle.lease.specs.Premise.{Agree}
 use Rattle.lease.specs.Promise.{Uses, NeverTwo, CanHave, Keeps, InTable}
 use Rattle.lease.proofs.Options.{some_same}
 use Rattle.lease.proofs.Choosing.{choosing}
 use Rattle.lease.proofs.Tidy.{owned-from}
 use Rattle.lease.proofs.Claims.{view, Line, Using}
-use Rattle.lease.proofs.Sound.{Sound}
 use Rattle.lease.proofs.Answers.{lending-parts}
 use Rattle.lease.proofs.Keeping.{tidy}
 use Rattle.lease.proofs.History.{Since, agrees, sound}

@@ -1,6 +1,6 @@
 -- What holds at every moment holds on when the server hears, crashes or restarts.
 -- Assumes nothing.
-use Rattle.std.proofs.Common.{◌≡◌, ℕ, ◌+◌, ◌<◌, ◌≤◌, Bool, true, false, cond, ◌&&◌, ◌||◌, eqb, ◌⊎◌, List, ◌∷◌, Some, None, Option, sym, refl, ap, ◌∙◌, inl, inr, arith}
+use Rattle.std.proofs.Common.{◌≡◌, ℕ, ◌+◌, ◌<◌, ◌≤◌, Bool, true, false, cond, ◌&&◌, ◌||◌, eqb, ◌∷◌, Some, None, Option, sym, refl, ap, ◌∙◌, inl, inr, arith}
 use Rattle.std.proofs.lemmas.Bool.{cond_both, cond-true, cond-false, cases_Bool, cases_lt, eqb-true, eq-eqb, or_parts}
 use Rattle.lease.specs.declared.answer.Answer.{Answer}
 use Rattle.lease.specs.declared.answer.Answer.TheVariants.{Unheard, Granted, Refused}
@@ -8,15 +8,15 @@ use Rattle.lease.specs.declared.lease.Lease.{Lease}
 use Rattle.lease.specs.declared.message.Request.{Request}
 use Rattle.lease.specs.declared.message.Grant.{Grant}
 use Rattle.lease.specs.Settings.{Settings, life, silence}
-use Rattle.lease.specs.Table.{Table, empty, at, vacant, leased, written, forgotten}
+use Rattle.lease.specs.Table.{Table, empty, vacant, leased, written, forgotten}
 use Rattle.lease.specs.Choosing.{Chosen}
 use Rattle.lease.specs.World.{Message, Requests, Grants, Server, World, is_silent, elem}
 use Rattle.lease.specs.Run.{answer, serves, lends, crashes, with_server, forgets, restarts, replied, server_hears}
 use Rattle.lease.proofs.Options.{none-some, some_same}
 use Rattle.lease.proofs.Choosing.{laws}
 use Rattle.lease.proofs.Tidy.{free-live, forgotten-stays}
-use Rattle.lease.proofs.Claims.{In, view, Line, Claim, claim-on}
-use Rattle.lease.proofs.Sound.{Moments, Sound, Agrees, Mine, Kept, sound-loses, server-does, claim-stays, same}
+use Rattle.lease.proofs.Claims.{In, view, Line, claim-on}
+use Rattle.lease.proofs.Sound.{Moments, Sound, Agrees, Mine, Kept, sound-loses, server-does, same}
 use Rattle.lease.proofs.Answers.{GrantedBy, Meant, meant, not-silent}
 
 module _ (s : Settings) (S S' : Moments) (w : World) (k : Sound s S w) where

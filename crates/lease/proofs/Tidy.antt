@@ -1,10 +1,10 @@
 -- What holds of the table alone: no client has two live leases, and a grant keeps it so.
 -- Assumes nothing.
-use Rattle.std.proofs.Common.{◌≡◌, ℕ, ◌+◌, ◌<◌, ◌≤◌, Bool, true, false, cond, not, ◌&&◌, ◌||◌, eqb, leb, ◌⊎◌, Some, None, Ok, Err, Option, Result, sym, refl, ap, ◌∙◌, subst, inl, inr, arith}
+use Rattle.std.proofs.Common.{◌≡◌, ℕ, ◌<◌, ◌≤◌, Bool, true, false, not, ◌&&◌, eqb, Some, None, Option, sym, refl, ap, ◌∙◌, inl, inr, arith}
 use Rattle.std.proofs.lemmas.Bool.{cond_both, cond-false, and_right, both_ways, eqb-true, eq-eqb, leb-true, le-leb, and_parts, and_from, or_cases, not-true}
 use Rattle.lease.specs.declared.lease.Lease.{Lease}
 use Rattle.lease.specs.declared.message.Request.{Request}
-use Rattle.lease.specs.Table.{Table, empty, at, live, owned, vacant, free, leased, written, forgotten, OneEach, Pooled}
+use Rattle.lease.specs.Table.{Table, empty, live, owned, vacant, free, leased, written, forgotten, OneEach, Pooled}
 use Rattle.lease.specs.Choosing.{Chosen, leasing, entered}
 use Rattle.lease.proofs.Options.{none-some, some_same}
 

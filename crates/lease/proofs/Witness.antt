@@ -1,10 +1,10 @@
 -- The runs that show that the promise isn't empty.
 -- Assumes nothing.
-use Rattle.std.proofs.Common.{◌≡◌, ℕ, zero, suc, ◌+◌, ◌-◌, ◌≤◌, List, [], ◌∷◌, refl, arith}
+use Rattle.std.proofs.Common.{◌≡◌, ℕ, zero, suc, ◌-◌, List, [], ◌∷◌, refl, arith}
 use Rattle.lease.specs.Settings.{Settings}
 use Rattle.lease.specs.Choosing.{lowest}
-use Rattle.lease.specs.World.{World, elem, sent}
-use Rattle.lease.specs.Run.{Event, Pass, world}
+use Rattle.lease.specs.World.{elem, sent}
+use Rattle.lease.specs.Run.{Event, world}
 use Rattle.lease.specs.Promise.{asked_and_heard}
 use Rattle.lease.specs.Drift.{Gains, GainsAtMost}
 use Rattle.lease.specs.Cases.{ticks, single}

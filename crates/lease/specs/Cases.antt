@@ -1,6 +1,6 @@
 -- Worked cases: a run, and what is seen after it. Term 100, skew 5.
 -- Assumes nothing.
-use Rattle.std.specs.Prelude.{◌≡◌, ℕ, List, [], ◌∷◌, Some, None, Ok, Err, Option, Result}
+use Rattle.std.specs.Prelude.{◌≡◌, ℕ, List, [], ◌∷◌, Some, Ok, Err, Result}
 use Rattle.lease.specs.declared.answer.Answer.{Answer}
 use Rattle.lease.specs.declared.answer.Answer.TheVariants.{Granted, Refused}
 use Rattle.lease.specs.declared.fault.Fault.{Fault}
@@ -8,7 +8,6 @@ use Rattle.lease.specs.declared.fault.Fault.TheVariants.{NotWaiting, TooLate, No
 use Rattle.lease.specs.declared.message.Request.{Request}
 use Rattle.lease.specs.declared.message.Grant.{Grant}
 use Rattle.lease.specs.Settings.{Settings}
-use Rattle.lease.specs.Table.{leased}
 use Rattle.lease.specs.Holding.{Holding, taking, taken}
 use Rattle.lease.specs.World.{World}
 use Rattle.lease.specs.Run.{Event, Pass, Asks, ServerHears, ClientHears, ClientStarts, ClientCrashes, answer, world}

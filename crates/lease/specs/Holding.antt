@@ -1,6 +1,6 @@
 -- What a client has: the address that it uses, and the request that waits, each or neither; and what its steps make of it.
 -- Assumes nothing.
-use Rattle.std.specs.Prelude.{ℕ, ◌+◌, Bool, cond, Some, None, Ok, Err, Option, Result, ◌==◌, nat_le}
+use Rattle.std.specs.Prelude.{ℕ, ◌+◌, cond, Some, None, Ok, Err, Option, Result, ◌==◌, nat_le}
 use Rattle.lease.specs.declared.fault.Fault.{Fault}
 use Rattle.lease.specs.declared.fault.Fault.TheVariants.{OtherClient, NotWaiting, TooLate}
 use Rattle.lease.specs.declared.message.Grant.{Grant}

@@ -1,6 +1,6 @@
 -- What each value of the code stands for in the model.
 -- Assumes nothing.
-use Rattle.std.specs.Prelude.{ℕ, Some, None, Ok, Err, Option, Result}
+use Rattle.std.specs.Prelude.{Some, None, Ok, Err, Result}
 use Rattle.lease.specs.declared.holding.Use.{Use}
 use Rattle.lease.specs.declared.holding.Wait.{Wait}
 use Rattle.lease.specs.declared.holding.Holding.{Holding}

@@ -4,7 +4,6 @@ use Rattle.std.specs.Prelude.{◌≡◌, ℕ, ◌+◌, ◌^◌, ◌≤◌, Bool,
 use Rattle.lease.specs.declared.answer.Answer.{Answer}
 use Rattle.lease.specs.declared.answer.Found.{Found}
 use Rattle.lease.specs.declared.answer.Found.TheVariants.{Table, Nothing}
-use Rattle.lease.specs.declared.clock.Clock.{Clock}
 use Rattle.lease.specs.declared.fault.Fault.{Fault}
 use Rattle.lease.specs.declared.fault.Fault.TheVariants.{CountExhausted}
 use Rattle.lease.specs.declared.lease.Lease.{Lease}

@@ -1,9 +1,9 @@
 -- Runs that show that the promise isn't empty: each is within the premises.
 -- Assumes nothing.
-use Rattle.std.specs.Prelude.{◌≡◌, ℕ, zero, suc, Bool, true, false, List, [], ◌∷◌, Some}
+use Rattle.std.specs.Prelude.{◌≡◌, ℕ, zero, suc, true, false, List, [], ◌∷◌, Some}
 use Rattle.lease.specs.Settings.{Settings}
 use Rattle.lease.specs.Holding.{taken}
-use Rattle.lease.specs.World.{World, lending}
+use Rattle.lease.specs.World.{lending}
 use Rattle.lease.specs.Run.{Event, Pass, ClientStarts, ServerCrashes, ServerRestarts, world}
 use Rattle.lease.specs.Premise.{AgreeClosely}
 use Rattle.lease.specs.Promise.{Uses, asked_and_heard}

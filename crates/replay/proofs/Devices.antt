@@ -1,13 +1,13 @@
 -- A device of zeros alone is blank at every place.
 -- Assumes nothing.
-use Rattle.std.proofs.Common.{◌≡◌, ℕ, ◌+◌, ◌-◌, ◌*◌, ◌<◌, ◌≤◌, Bool, true, false, cond, ltb, List, [], length, get_or, take, drop, replicate, sym, refl, ap, ◌∙◌, arith}
+use Rattle.std.proofs.Common.{◌≡◌, ℕ, ◌+◌, ◌-◌, ◌*◌, ◌<◌, ltb, List, [], get_or, take, drop, replicate, refl, ap, ◌∙◌, arith}
 use mathlib.Core.Path.{fun_ext}
 use Rattle.std.specs.List.{between}
 use Rattle.std.proofs.lemmas.List.{drop-replicate, take-replicate}
 use Rattle.std.proofs.lemmas.Bool.{cond_both, ltb-true}
-use Rattle.journal.specs.Place.{Place, Blank}
+use Rattle.journal.specs.Place.{Blank}
 use Rattle.journal.specs.Device.{Device, Side, Row0, Row1, Cursor, cursor}
-use Rattle.journal.specs.Image.{Divided, index, device_of}
+use Rattle.journal.specs.Image.{Divided, device_of}
 use Rattle.journal.specs.Bytes.{place_of}
 use Rattle.journal.proofs.Codes.{zeros-are-blank}
 use Rattle.system.specs.Parties.{blank}

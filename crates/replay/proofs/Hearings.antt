@@ -1,6 +1,6 @@
 -- One event: what is heard, noted, tested and put out, joined to the play's next moment and its lines.
 -- Assumes nothing.
-use Rattle.std.proofs.Common.{◌≡◌, ℕ, Bool, ◌||◌, List, [], ◌∷◌, ◌++◌, is_some, None, Option, sym, refl, ap, ◌∙◌, subst, append_assoc}
+use Rattle.std.proofs.Common.{◌≡◌, ℕ, Bool, ◌||◌, List, ◌++◌, is_some, None, Option, refl, ap, ◌∙◌, append_assoc}
 use Rattle.std.specs.Option.{option_to_list}
 use Rattle.wire.specs.declared.message.Message.{Message}
 use Rattle.system.specs.declared.line.Line.{Line}
@@ -10,7 +10,7 @@ use Rattle.system.specs.declared.line.Premise.{Premise}
 use Rattle.system.specs.declared.line.Premise.TheVariants as premise
 use Rattle.system.specs.Parties.{Event, Outcome, Parties, happens}
 use Rattle.system.specs.Watch.{Watch, any_in, apart, breaks, differ, drawn, exhausts, knows, or_else, sets_back, shares_number, unsent, watched}
-use Rattle.system.specs.Report.{Play, broken, fault_lines, lines, lines_of, listener, next, next_of, premise_line, sharing, some, tick_lines, two_line}
+use Rattle.system.specs.Report.{Play, broken, fault_lines, lines_of, listener, next_of, premise_line, sharing, some, tick_lines, two_line}
 use Rattle.replay.specs.declared.run.Checks.{Checks}
 use Rattle.replay.specs.Checks.{Checked, Foreseen, first_of}
 use Rattle.replay.specs.Heard.{Heard}

@@ -6,7 +6,6 @@ use Rattle.server.specs.declared.effect.Effect.{Effect}
 use Rattle.server.specs.declared.effect.Effect.TheVariants.{Persist, Send}
 use Rattle.wire.specs.declared.message.Message.{Message}
 use Rattle.system.specs.declared.line.Party.{Party}
-use Rattle.system.specs.declared.line.Line.{Line}
 use Rattle.system.specs.Parties.{sends}
 use Rattle.client.specs.Nonces.{request, requests}
 use Rattle.system.specs.Watch.{exhausted_by, exhausts, fault_in, grant_of, grants}

@@ -1,11 +1,11 @@
 -- Events one after the other: what is out already and what the rest will put out make the whole report.
 -- Assumes nothing.
-use Rattle.std.proofs.Common.{◌≡◌, ℕ, ◌+◌, ◌<◌, ◌≤◌, Bool, true, false, cond, not, ◌&&◌, eqb, List, [], ◌∷◌, ◌++◌, map, length, get_or, drop, sym, refl, ap, ◌∙◌, subst, append_assoc, append-nil, arith}
-use Rattle.std.proofs.lemmas.List.{drop_all, drop-drop, drop-map, drop_more, length-map}
+use Rattle.std.proofs.Common.{◌≡◌, ℕ, ◌+◌, ◌<◌, ◌≤◌, Bool, false, not, ◌&&◌, eqb, List, [], ◌∷◌, ◌++◌, map, length, get_or, drop, sym, refl, ap, ◌∙◌, subst, append_assoc, append-nil, arith}
+use Rattle.std.proofs.lemmas.List.{drop_all, drop-drop, drop-map, drop_more}
 use Rattle.std.proofs.lemmas.Bool.{cond_both}
 use Rattle.wire.specs.Read.{read}
 use Rattle.script.specs.declared.entry.Entry.{Entry}
-use Rattle.script.specs.Script.{Known, Part, Sound, part_of}
+use Rattle.script.specs.Script.{Known, Part, part_of}
 use Rattle.system.specs.declared.line.Line.{Line}
 use Rattle.system.specs.Parties.{AllWithin, Event, ToClient, ToServer, Within}
 use Rattle.system.specs.Watch.{is_tick, is_tick_in}

@@ -1,6 +1,6 @@
 -- Each step of the code as a step of the parties.
 -- Assumes nothing.
-use Rattle.std.proofs.Common.{◌≡◌, ℕ, ◌<◌, cond, List, ◌++◌, length, get_or, set, is_ok, IfOk, Ok, Err, vec_items, Result, sym, refl, ap, ◌∙◌}
+use Rattle.std.proofs.Common.{◌≡◌, ℕ, ◌<◌, cond, List, ◌++◌, length, get_or, set, is_ok, IfOk, Ok, Err, vec_items, Result, sym, ap, ◌∙◌}
 use Rattle.std.specs.declared.alloc.AllocError.{AllocError}
 use Rattle.lease.specs.Table.{at}
 use Rattle.wire.specs.declared.message.Message.{Message}

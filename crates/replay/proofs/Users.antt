@@ -1,6 +1,6 @@
 -- A pass over all places that puts out who uses what.
 -- Assumes nothing.
-use Rattle.std.proofs.Common.{◌≡◌, ℕ, zero, suc, ◌+◌, ◌-◌, ◌<◌, ◌≤◌, List, [], ◌∷◌, ◌++◌, sym, refl, ap, ◌∙◌, append_assoc, append-nil, add-one, arith}
+use Rattle.std.proofs.Common.{◌≡◌, ℕ, suc, ◌+◌, ◌-◌, ◌<◌, ◌≤◌, List, [], ◌++◌, sym, refl, ap, ◌∙◌, append_assoc, append-nil, add-one, arith}
 use Rattle.client.specs.State.{in_use}
 use Rattle.system.specs.declared.line.Line.{Line}
 use Rattle.system.specs.Parties.{Parties}

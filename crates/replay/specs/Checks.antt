@@ -1,6 +1,6 @@
 -- The premises that an event breaks, as they are tested one by one, before it is heard and after.
 -- Assumes nothing.
-use Rattle.std.specs.Prelude.{◌≡◌, ◌||◌, List, Some, None, Option}
+use Rattle.std.specs.Prelude.{◌≡◌, ◌||◌, List, None, Option}
 use Rattle.wire.specs.declared.message.Message.{Message}
 use Rattle.system.specs.declared.line.Premise.{Premise}
 use Rattle.system.specs.declared.line.Premise.TheVariants as premise

@@ -1,6 +1,6 @@
 -- The parties that those in memory stand for, and the event that bytes are which come to one of them.
 -- Assumes nothing.
-use Rattle.std.specs.Prelude.{◌≡◌, ℕ, ◌-◌, ◌^◌, ◌<◌, Bool, false, cond, ◌&&◌, List, [], ◌∷◌, map, is_some, vec_items, ◌==◌, slice_index_or}
+use Rattle.std.specs.Prelude.{◌≡◌, ℕ, ◌^◌, ◌<◌, false, cond, ◌&&◌, List, [], ◌∷◌, map, is_some, vec_items, ◌==◌, slice_index_or}
 use Rattle.wire.specs.declared.message.Message.{Message}
 use Rattle.server.specs.declared.effect.Effect.{Effect}
 use Rattle.server.specs.declared.effect.Effect.TheVariants.{Persist, Send}

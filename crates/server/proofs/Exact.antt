@@ -5,7 +5,7 @@ use Rattle.std.proofs.lemmas.List.{take_all, take_at}
 use Rattle.std.proofs.lemmas.Bool.{both_ways, cases_Bool, cases_eq, cases_lt, cond-false, cond-true, le-leb, leb-false, leb-true, ltb-false}
 use Rattle.lease.specs.declared.lease.Lease.{Lease}
 use Rattle.journal.specs.Place.{height}
-use Rattle.journal.specs.Table.{Table, Filed, added, empty, keeping, kept, kept_of, set}
+use Rattle.journal.specs.Table.{Table, Filed, added, empty, keeping, kept_of, set}
 use Rattle.journal.specs.Row.{Row, first, table_of, whole}
 use Rattle.journal.specs.Device.{Side, Device, Cursor, cursor, high, leases, other}
 use Rattle.journal.specs.Append.{Plan, Write, in_other, in_row, perform, plan, put, writes}

@@ -5,7 +5,6 @@ use mathlib.Core.Path.{fun_ext}
 use Rattle.std.proofs.lemmas.Bool.{cases_lt, cond-true, cond-false, eq-eqb, le-ltb, lt-ltb}
 use Rattle.lease.specs.declared.keeper.Keeper.{Keeper}
 use Rattle.lease.specs.declared.lease.Lease.{Lease}
-use Rattle.lease.specs.declared.settings.Settings.{Settings}
 use Rattle.lease.specs.Settings as model
 use Rattle.lease.specs.Table.{Table, at_home, loaded}
 use Rattle.lease.specs.World as world

@@ -18,7 +18,6 @@ use Rattle.lease.specs.Run as run
 use Rattle.lease.specs.Run.{answer, crashes, forgets, lends, over, restarts, server_passes, serves}
 use Rattle.lease.proofs.Answers.{GrantedBy, Meant, meant}
 use Rattle.lease.proofs.Choosing.{laws}
-use Rattle.wire.specs.declared.message.Message.{Message}
 use Rattle.wire.specs.declared.message.Message.TheVariants.{Request, Grant, Settings, Tick, Crash, Restart, OwnNumber, Nonce, InUse, NoAddress, Fault}
 use Rattle.wire.specs.Decode.{Answer}
 use Rattle.journal.specs.Table.{kept_of, set}

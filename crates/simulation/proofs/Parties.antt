@@ -1,6 +1,6 @@
 -- What the list of clients and the list of messages stand for, after a read and after a write.
 -- Assumes nothing.
-use Rattle.std.proofs.Common.{◌≡◌, ℕ, zero, suc, ◌+◌, ◌-◌, ◌^◌, ◌<◌, ◌≤◌, Bool, true, false, cond, ◌||◌, eqb, List, [], ◌∷◌, ◌++◌, map, reverse, length, get_or, take, set, replicate, is_err, Some, None, Ok, Err, Option, Result, sym, refl, ap, ◌∙◌, arith, below_more}
+use Rattle.std.proofs.Common.{◌≡◌, ℕ, zero, suc, ◌+◌, ◌-◌, ◌^◌, ◌<◌, ◌≤◌, Bool, true, false, ◌||◌, eqb, List, [], ◌∷◌, ◌++◌, map, reverse, length, get_or, take, set, replicate, is_err, Some, None, Ok, Err, Result, sym, refl, ap, ◌∙◌, arith, below_more}
 use mathlib.Core.Path.{fun_ext}
 use Rattle.std.proofs.lemmas.List.{get_or-map, get_or_past, get_or-reverse, map-set, map-append, length-map, length-reverse, reverse-append, take_more}
 use Rattle.std.proofs.lemmas.Bool.{both_ways, cond-true, cond-false, eq-eqb, ne_eqb}
@@ -14,7 +14,6 @@ use Rattle.lease.specs.Run.{client_passes}
 use Rattle.lease.specs.Stands.{client_of, HolderPassed}
 use Rattle.lease.proofs.Places.{set_at}
 use Rattle.simulation.specs.declared.event.Sent.{Sent}
-use Rattle.simulation.specs.declared.event.Sent.TheVariants.{Request, Grant}
 use Rattle.simulation.specs.Play.{off, clients_of, message_of, messages_of, nonces, draws_it}
 
 pub client-at : (xs : List Holder) (i : ℕ) (d : Holder) → i < length xs → clients_of xs i ≡ client_of (get_or xs i d)

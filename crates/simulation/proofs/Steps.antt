@@ -16,7 +16,7 @@ use Rattle.lease.specs.Holding as held
 use Rattle.lease.specs.World as world
 use Rattle.lease.specs.Run as run
 use Rattle.lease.specs.Premise.{Agree}
-use Rattle.lease.specs.Of.{holding_of, map_ok}
+use Rattle.lease.specs.Of.{holding_of}
 use Rattle.lease.specs.Stands.{client_of, HolderHeard}
 use Rattle.lease.proofs.Promise.{never_two}
 use Rattle.simulation.specs.declared.event.Sent.{Sent}
@@ -24,7 +24,7 @@ use Rattle.simulation.specs.declared.event.Sent.TheVariants.{Request, Grant}
 use Rattle.simulation.specs.declared.event.Event.{Event}
 use Rattle.simulation.specs.declared.event.Stop.{Stop}
 use Rattle.simulation.specs.declared.simulation.Simulation.{Simulation}
-use Rattle.simulation.specs.Play.{off, clients_of, message_of, messages_of, nonces, settings_in, world_of, event_of, history, Refused, Stepped, PlayedTo, Alone}
+use Rattle.simulation.specs.Play.{off, clients_of, messages_of, nonces, settings_in, world_of, event_of, history, Refused, Stepped, PlayedTo, Alone}
 use Rattle.simulation.proofs.Parties.{client-at, client-read, client-past, clients-set, clients-start, messages-push, nonces-request, nonces-grant}
 
 -- a world by its server, clients and messages

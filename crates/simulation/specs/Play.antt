@@ -1,6 +1,6 @@
 -- What a simulation stands for, what its events are in the model, and what a play of them leaves.
 -- Assumes nothing.
-use Rattle.std.specs.Prelude.{◌≡◌, ℕ, ◌+◌, ◌^◌, ◌<◌, ◌≤◌, Bool, true, false, ◌⊎◌, List, [], ◌∷◌, ◌++◌, map, reverse, length, get_or, take, drop, Some, None, Ok, Err, vec_items, vec_len, Option, Result, ◌==◌, slice_index, slice_index_or}
+use Rattle.std.specs.Prelude.{◌≡◌, ℕ, ◌+◌, ◌^◌, ◌<◌, ◌≤◌, Bool, true, false, ◌⊎◌, List, [], ◌∷◌, ◌++◌, map, reverse, length, get_or, take, drop, Some, Ok, Err, vec_items, vec_len, Result, ◌==◌, slice_index, slice_index_or}
 use Rattle.lease.specs.declared.holder.Holder.{Holder}
 use Rattle.lease.specs.Settings.{Settings}
 use Rattle.lease.specs.Holding as held

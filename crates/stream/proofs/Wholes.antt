@@ -1,12 +1,12 @@
 -- Bytes as whole messages with something unfinished behind them.
-use Rattle.std.proofs.Common.{◌≡◌, ℕ, zero, suc, ◌+◌, ◌<◌, ◌≤◌, Bool, true, false, not, eqb, ltb, List, [], ◌∷◌, ◌++◌, length, get_or, take, drop, sym, refl, ap, ◌∙◌, subst, ap₂, arith, length-append, length-drop, Bor}
+use Rattle.std.proofs.Common.{◌≡◌, ℕ, zero, suc, ◌<◌, ◌≤◌, Bool, true, false, not, eqb, ltb, List, [], ◌∷◌, ◌++◌, length, get_or, take, drop, sym, refl, ap, ◌∙◌, subst, ap₂, arith, length-append, length-drop, Bor}
 use Rattle.std.proofs.lemmas.List.{append-nil, append_assoc, drop_at, take_at, take-append-drop, length-take-le}
 use Rattle.std.proofs.lemmas.Bool.{ltb-true, ltb-false, ne_eqb}
 use Rattle.std.specs.List.{flat_map}
 use Rattle.wire.proofs.Streams.{delivered, held_cut, held_first, held_none}
 use Rattle.wire.specs.declared.stream.Next.{Next}
 use Rattle.wire.specs.declared.stream.Next.TheVariants.{Message, End, Cut}
-use Rattle.wire.specs.Stream.{Held, Reads, framed, held, none, broken}
+use Rattle.wire.specs.Stream.{Held, Reads, framed, held}
 use Rattle.stream.specs.Whole.{whole, behind, Delivers, Fails}
 use Rattle.stream.specs.Chunks.{handed, left, same, ChunksDeliver, EndTells}
 

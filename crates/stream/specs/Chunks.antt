@@ -1,6 +1,6 @@
 -- A stream that comes in chunks: what is handed on after each, and what is kept for the next.
 -- Assumes nothing.
-use Rattle.std.specs.Prelude.{◌≡◌, ℕ, Bool, not, List, [], ◌∷◌, ◌++◌, length, ◌==◌}
+use Rattle.std.specs.Prelude.{◌≡◌, ℕ, not, List, [], ◌∷◌, ◌++◌, length, ◌==◌}
 use Rattle.std.specs.List.{flat_map}
 use Rattle.wire.specs.Stream.{held}
 use Rattle.stream.specs.Whole.{whole, behind}

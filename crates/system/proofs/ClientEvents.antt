@@ -1,7 +1,7 @@
 -- An event of a client keeps a run with its world of the lending core, before the moment is judged.
 -- Assumes nothing.
-use Rattle.std.proofs.Common.{◌≡◌, ℕ, zero, suc, ◌+◌, ◌-◌, ◌^◌, ◌<◌, ◌≤◌, Bool, true, false, cond, not, ◌&&◌, ◌||◌, eqb, ltb, ◌⊎◌, List, [], ◌∷◌, ◌++◌, is_some, Some, None, Option, sym, refl, ap, ◌∙◌, subst, inl, inr, arith}
-use Rattle.std.proofs.lemmas.Bool.{both_ways, cases_Bool, cases_eq, cond_both, cond-true, cond-false, eqb-true, eqb-false, eq-eqb, ne_eqb, and_from, or_parts, not-false}
+use Rattle.std.proofs.Common.{◌≡◌, ℕ, ◌<◌, Bool, true, false, cond, not, ◌&&◌, ◌||◌, eqb, ◌⊎◌, List, [], ◌∷◌, ◌++◌, is_some, Some, None, Option, sym, refl, ap, ◌∙◌, subst, inl, inr}
+use Rattle.std.proofs.lemmas.Bool.{both_ways, cases_eq, cond-true, cond-false, eqb-false, eq-eqb, ne_eqb, and_from}
 use Rattle.lease.specs.declared.message.Grant as given
 use Rattle.lease.specs.declared.message.Request as asked
 use Rattle.lease.specs.Settings as model
@@ -18,15 +18,11 @@ use Rattle.lease.proofs.Sound.{Kept, Moments, Sound, same}
 use Rattle.lease.proofs.ClientSteps as client-steps
 use Rattle.lease.proofs.Passing.{clients-pass}
 use Rattle.lease.proofs.Keeping.{Tidy}
-use Rattle.wire.specs.declared.message.Message as wire
-use Rattle.wire.specs.declared.message.Message.TheVariants as message
 use Rattle.client.specs.Client.{Client}
-use Rattle.client.specs.State.{State}
 use Rattle.system.specs.Parties.{Parties, places}
 use Rattle.system.specs.Watch.{Lead, Watch, requested, same_request}
-use Rattle.system.proofs.Turning.{HolderBy, OwnBy, TurnedBy}
 use Rattle.system.proofs.Watching.{request-same}
-use Rattle.system.proofs.Queueing.{elem_back, elem-front, elem-here, elem-later, elem-not, elem-one, distinct_head}
+use Rattle.system.proofs.Queueing.{elem_back, elem-here, elem-later, elem-not, elem-one, distinct_head}
 use Rattle.client.specs.Nonces.{Distinct}
 use Rattle.system.proofs.Following.{Moment, Queues, Base, ticked, pass-none}
 

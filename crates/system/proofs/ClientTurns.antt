@@ -1,8 +1,8 @@
 -- What bytes that come to a client make of the run, by the message that they are.
 -- Assumes nothing.
-use Rattle.std.proofs.Common.{◌≡◌, ℕ, ◌+◌, ◌^◌, ◌<◌, ◌≤◌, Bool, true, false, cond, not, ◌&&◌, ◌||◌, eqb, ltb, ◌⊎◌, List, [], ◌∷◌, ◌++◌, is_some, IfOk, Some, None, Ok, Err, Option, Result, sym, refl, ap, ◌∙◌, subst, inl, inr, arith}
+use Rattle.std.proofs.Common.{◌≡◌, ℕ, ◌+◌, ◌<◌, Bool, true, false, not, ◌||◌, List, [], ◌∷◌, ◌++◌, is_some, IfOk, Some, None, Ok, Err, Option, Result, sym, refl, ap, ◌∙◌, subst, inl, inr}
 use Rattle.std.proofs.lemmas.List.{append-nil}
-use Rattle.std.proofs.lemmas.Bool.{both_ways, cases_Bool, cond_both, cond-true, cond-false, not-false, or_left, or_right}
+use Rattle.std.proofs.lemmas.Bool.{both_ways, cases_Bool, cond_both, cond-true, cond-false, not-false, or_right}
 use Rattle.lease.specs.declared.fault.Fault as lease
 use Rattle.lease.specs.declared.message.Grant as given
 use Rattle.lease.specs.declared.message.Request as asked
@@ -19,12 +19,12 @@ use Rattle.wire.specs.declared.message.Message.TheVariants.{Request, Grant, Sett
 use Rattle.wire.specs.Read.{read}
 use Rattle.client.specs.Client as client
 use Rattle.client.specs.Client.{Client, keeps, lends, queued, refuses, sends}
-use Rattle.client.specs.State.{State, Turn, does}
+use Rattle.client.specs.State.{Turn, does}
 use Rattle.client.specs.Nonces.{Distinct, requests}
 use Rattle.client.proofs.Turns.{Turned, turned}
 use Rattle.client.proofs.Steps.{requests-++}
-use Rattle.system.specs.Parties.{Parties, Event, ToClient, Outcome, client_does, happens, places}
-use Rattle.system.specs.Watch.{Lead, Watch, anew, differ, granted, knows, nonce_in, or_first, start_in, unsent_grant, watched}
+use Rattle.system.specs.Parties.{Parties, Event, ToClient, Outcome, client_does, places}
+use Rattle.system.specs.Watch.{Lead, Watch, anew, nonce_in, or_first, start_in, unsent_grant, watched}
 use Rattle.system.proofs.Turning.{HolderBy, OwnBy, TurnedBy, client-hears, may-ask, turned_by}
 use Rattle.system.proofs.Watching.{Unbroken, known-first, none_below, numbers_apart}
 use Rattle.system.proofs.Queueing.{distinct-join, elem_back, elem-either, elem-front, elem-not, lent-distinct, lends-is, none_in}

@@ -1,19 +1,19 @@
 -- What a report that names no broken premise says of the clocks.
 -- Assumes nothing.
-use Rattle.std.proofs.Common.{◌≡◌, ℕ, ◌+◌, ◌^◌, ◌<◌, ◌≤◌, Bool, true, false, cond, not, ◌&&◌, ◌||◌, ◌⊎◌, List, [], ◌∷◌, ◌++◌, is_some, Some, None, Option, sym, refl, ap, ◌∙◌, subst, inl, inr, arith}
+use Rattle.std.proofs.Common.{◌≡◌, ℕ, ◌+◌, ◌<◌, ◌≤◌, Bool, true, false, not, ◌||◌, List, [], ◌∷◌, ◌++◌, is_some, Some, None, Option, sym, refl, ap, ◌∙◌, subst, inl, inr, arith}
 use Rattle.std.proofs.lemmas.Bool.{both_ways, cond_both, cond-false, and_from}
 use Rattle.std.proofs.lemmas.List.{append_assoc}
 use Rattle.lease.specs.Settings as model
 use Rattle.lease.specs.Settings.{outlasts}
 use Rattle.lease.specs.Table.{at}
-use Rattle.lease.proofs.Options.{none-some, some_same}
+use Rattle.lease.proofs.Options.{some_same}
 use Rattle.system.specs.Parties.{Parties, Event, ToServer, ToClient, Cuts, Damages, AllWithin, Outcome, happens, heard, places}
-use Rattle.system.specs.Watch.{Lead, Watch, anew, is_tick, leads_after, noted, start_in, watched}
+use Rattle.system.specs.Watch.{Lead, Watch, anew, is_tick, leads_after, start_in, watched}
 use Rattle.system.specs.Report.{Play, after, beginning, broken, judged, lines, next, played, ticks_next}
 use Rattle.system.specs.Promise.{Kept, any, names_premise}
 use Rattle.system.specs.Clocks.{Both, ClocksAgree, Spared, within_ticks, reached, spares, ticks_last}
-use Rattle.system.proofs.Watching.{At, Unbroken, Wider, noted-wider, unbroken, wider-at, wider-self}
-use Rattle.system.proofs.Following.{Base, Follows, Judged, Near, server-clock}
+use Rattle.system.proofs.Watching.{Unbroken, Wider, noted-wider, unbroken, wider-self}
+use Rattle.system.proofs.Following.{Follows, Judged, Near, server-clock}
 use Rattle.system.proofs.ClientEvents.{at_other}
 use Rattle.system.proofs.Running.{one-event}
 use Rattle.system.proofs.Promise.{any-apart, begins, settings-of, settings-so, settings-stay, unjudged, whole-at}

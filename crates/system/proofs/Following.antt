@@ -1,20 +1,20 @@
 -- What holds of a run over bytes at every moment: a world of the lending core goes with it, in which all that is promised holds.
 -- Assumes nothing.
-use Rattle.std.proofs.Common.{◌≡◌, ℕ, zero, suc, ◌+◌, ◌-◌, ◌^◌, ◌<◌, ◌≤◌, Bool, true, false, cond, not, ◌&&◌, ◌||◌, eqb, ltb, leb, ◌⊎◌, List, [], ◌∷◌, ◌++◌, is_some, Some, None, Option, sym, refl, ap, ◌∙◌, subst, inl, inr, arith}
-use Rattle.std.proofs.lemmas.Bool.{cond_both, cond-true, cond-false, both_ways, cases_Bool, leb-true, le-leb, ltb-true, lt-ltb, and_parts, and_from}
+use Rattle.std.proofs.Common.{◌≡◌, ℕ, zero, suc, ◌+◌, ◌^◌, ◌<◌, ◌≤◌, Bool, true, false, cond, ◌&&◌, ltb, leb, ◌⊎◌, List, is_some, Some, None, Option, sym, refl, ap, ◌∙◌, subst, inl, inr, arith}
+use Rattle.std.proofs.lemmas.Bool.{cond_both, cond-true, cond-false, cases_Bool, le-leb, ltb-true, lt-ltb, and_parts, and_from}
 use Rattle.lease.specs.declared.message.Grant as given
 use Rattle.lease.specs.declared.message.Request as asked
 use Rattle.lease.specs.Settings as model
 use Rattle.lease.specs.Settings.{life}
 use Rattle.lease.specs.Table.{empty}
-use Rattle.lease.specs.Holding.{Use, Holding, later, nothing, still_used}
+use Rattle.lease.specs.Holding.{Use, later, nothing, still_used}
 use Rattle.lease.specs.World as core
 use Rattle.lease.specs.World.{Message, Requests, Grants, World, elem}
 use Rattle.lease.specs.Run as run
 use Rattle.lease.specs.Run.{client_passes, over, server_passes}
 use Rattle.lease.proofs.Options.{none-some, some_same}
 use Rattle.lease.proofs.Claims.{In}
-use Rattle.lease.proofs.Sound.{Moments, Sound, Kept, same}
+use Rattle.lease.proofs.Sound.{Sound, same}
 use Rattle.lease.proofs.Passing.{time-passes}
 use Rattle.lease.proofs.Keeping.{Tidy, tidy-step}
 use Rattle.lease.proofs.History.{passes-clock}

@@ -1,33 +1,30 @@
 -- Who asks while an address is free has one, and who uses one and asks keeps it: by two messages.
 -- Assumes nothing.
-use Rattle.std.proofs.Common.{◌≡◌, ℕ, ◌+◌, ◌^◌, ◌<◌, ◌≤◌, Bool, true, false, cond, eqb, ltb, leb, ◌⊎◌, List, [], ◌∷◌, ◌++◌, Some, None, Ok, Err, Option, Result, sym, refl, ap, ◌∙◌, subst, inl, inr, arith}
+use Rattle.std.proofs.Common.{◌≡◌, ℕ, ◌+◌, ◌^◌, ◌<◌, ◌≤◌, true, eqb, ltb, leb, [], ◌∷◌, Some, None, Ok, Option, Result, sym, refl, ap, ◌∙◌, subst, inl, inr, arith}
 use Rattle.std.specs.Option.{option_map}
-use Rattle.std.proofs.lemmas.Bool.{both_ways, cond_both, cond-true, cond-false, eq-eqb, le-leb, lt-ltb, ltb-true}
+use Rattle.std.proofs.lemmas.Bool.{cond_both, cond-true, cond-false, eq-eqb, le-leb, lt-ltb, ltb-true}
 use Rattle.lease.specs.declared.answer.Answer as lent
-use Rattle.lease.specs.declared.answer.Answer.TheVariants.{Unheard, Granted, Refused}
 use Rattle.lease.specs.declared.fault.Fault as lease
-use Rattle.lease.specs.declared.fault.Fault.TheVariants.{CountExhausted}
 use Rattle.lease.specs.declared.lease.Lease.{Lease}
 use Rattle.lease.specs.declared.message.Grant as given
 use Rattle.lease.specs.declared.message.Request as asked
 use Rattle.lease.specs.Settings as model
 use Rattle.lease.specs.Settings.{life}
 use Rattle.lease.specs.Choosing.{Chosen, choose}
-use Rattle.lease.specs.Holding.{Holding, Use, Wait, taken, taking, taking_for}
-use Rattle.lease.specs.Table.{OneEach, Table, free, owned}
+use Rattle.lease.specs.Holding.{Holding, Use, Wait, taken, taking_for}
+use Rattle.lease.specs.Table.{OneEach, Table, owned}
 use Rattle.lease.specs.World as core
 use Rattle.lease.specs.World.{lending}
 use Rattle.lease.specs.Run.{answer, hearing}
 use Rattle.lease.specs.Run as run
-use Rattle.lease.proofs.Options.{none-some, some_same}
+use Rattle.lease.proofs.Options.{none-some}
 use Rattle.lease.proofs.Choosing.{choosing}
 use Rattle.lease.proofs.Promise as promise
 use Rattle.wire.specs.declared.message.Message.{Message}
 use Rattle.wire.specs.declared.message.Message.TheVariants.{Request, Grant}
 use Rattle.wire.specs.declared.reader.Reader.TheVariants as reader
-use Rattle.wire.specs.Decode.{Answer, answered, decoded, judged}
+use Rattle.wire.specs.Decode.{Answer, answered, decoded}
 use Rattle.wire.specs.Message.{encoded}
-use Rattle.wire.specs.Read.{read}
 use Rattle.wire.proofs.Readings.{read-encoded}
 use Rattle.journal.specs.Append.{exhausted}
 use Rattle.server.specs.Server as server
@@ -41,7 +38,7 @@ use Rattle.lease.proofs.Claims.{Using, view}
 use Rattle.client.specs.Client as client
 use Rattle.client.specs.Client.{Client}
 use Rattle.client.specs.State.{State, Turn, does, held_by, in_use, takes}
-use Rattle.system.specs.Parties.{Parties, ToServer, ToClient, happens, places, sends}
+use Rattle.system.specs.Parties.{Parties, places, sends}
 use Rattle.system.specs.Promise.{Asked, CanHave, Has, Keeps, answered_to, parties}
 use Rattle.system.specs.Report.{after, beginning}
 use Rattle.system.specs.Watch.{Watch}

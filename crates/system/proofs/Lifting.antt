@@ -1,14 +1,13 @@
 -- What the server does in one step, as events of the lending core, keeps what holds at every moment.
 -- Assumes nothing.
-use Rattle.std.proofs.Common.{◌≡◌, ℕ, ◌+◌, ◌≤◌, Bool, true, false, cond, ◌||◌, ◌⊎◌, List, [], ◌∷◌, ◌++◌, Some, None, Option, sym, refl, ap, ◌∙◌, subst, inl, inr, arith}
+use Rattle.std.proofs.Common.{◌≡◌, ℕ, ◌+◌, ◌≤◌, Bool, true, false, cond, List, [], ◌∷◌, Some, sym, refl, ◌∙◌, subst, inr, arith}
 use Rattle.std.proofs.lemmas.Bool.{cond_both, both_ways}
 use Rattle.lease.specs.declared.answer.Answer as lent
 use Rattle.lease.specs.declared.answer.Answer.TheVariants.{Unheard, Granted, Refused}
-use Rattle.lease.specs.declared.message.Grant as given
 use Rattle.lease.specs.declared.message.Request as asked
 use Rattle.lease.specs.Settings as model
 use Rattle.lease.specs.Settings.{life}
-use Rattle.lease.specs.World.{Message, Requests, Grants, Server, Client, World}
+use Rattle.lease.specs.World.{Message, Requests, Server, World}
 use Rattle.lease.specs.Run as run
 use Rattle.lease.specs.Run.{answer, crashes, forgets, restarts, serves, replies, with_server, server_hears}
 use Rattle.lease.proofs.Options.{some_same}
@@ -18,7 +17,7 @@ use Rattle.lease.proofs.ServerSteps.{server-crashes, server-forgets, server-rest
 use Rattle.lease.proofs.Keeping.{Tidy, serves-tidy, hears-tidy, tidy-step}
 use Rattle.lease.proofs.Answers.{meant}
 use Rattle.lease.proofs.History.{restarts-clock}
-use Rattle.server.specs.Refines.{AllFrom, Asking, Cause, Crashes, Event, Falling, Forgets, Hears, HearsAndCrashes, Other, Passes, Restarts, Rising, Time, grant_by, occur, occurs, sends, sent}
+use Rattle.server.specs.Refines.{AllFrom, Asking, Cause, Crashes, Event, Forgets, Hears, HearsAndCrashes, Passes, Restarts, Rising, Time, occur, sent}
 use Rattle.server.specs.Follows.{sent_on}
 use Rattle.server.proofs.Following.{replies-on}
 

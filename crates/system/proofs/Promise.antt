@@ -1,7 +1,7 @@
 -- The promise over whole runs: a report that names no broken premise names no address that two use, and no two ever use one.
 -- Assumes nothing.
-use Rattle.std.proofs.Common.{◌≡◌, ℕ, zero, suc, ◌+◌, ◌^◌, ◌<◌, ◌≤◌, min, max, Bool, true, false, cond, not, ◌&&◌, ◌||◌, eqb, ◌⊎◌, List, [], ◌∷◌, ◌++◌, is_some, Some, None, Option, sym, refl, ap, ◌∙◌, subst, inl, inr, arith}
-use Rattle.std.proofs.lemmas.Bool.{both_ways, cases_Bool, cond_both, eqb-true, eq-eqb, and_parts, or_parts, or_from, not-true, not-false}
+use Rattle.std.proofs.Common.{◌≡◌, ℕ, zero, suc, ◌<◌, Bool, true, false, not, ◌&&◌, ◌||◌, eqb, List, [], ◌∷◌, ◌++◌, is_some, Some, None, Option, sym, refl, ap, ◌∙◌, inr, arith}
+use Rattle.std.proofs.lemmas.Bool.{both_ways, cond_both, eqb-true, eq-eqb, and_parts, or_parts, or_from, not-true, not-false}
 use Rattle.lease.specs.declared.fault.Fault as lease
 use Rattle.lease.specs.declared.lease.Lease.{Lease}
 use Rattle.lease.specs.Settings as model
@@ -11,26 +11,23 @@ use Rattle.lease.specs.Table.{Table}
 use Rattle.lease.specs.World as core
 use Rattle.lease.proofs.Options.{none-some, some_same}
 use Rattle.lease.proofs.Choosing.{Lowest, lowest-is}
-use Rattle.lease.proofs.Claims.{Line, Using, view}
+use Rattle.lease.proofs.Claims.{Using, view}
 use Rattle.lease.proofs.Keeping.{tidy-empty}
 use Rattle.wire.specs.declared.message.Message as message
-use Rattle.journal.specs.Device.{chosen, cursor, is_found}
+use Rattle.journal.specs.Device.{chosen, is_found}
 use Rattle.journal.proofs.Choosing.{choice-tells}
-use Rattle.server.specs.Server as server
-use Rattle.server.specs.Refines.{model_of}
 use Rattle.server.proofs.Refining.{pooled-none}
 use Rattle.client.specs.Nonces.{Distinct}
 use Rattle.client.specs.State.{in_use}
 use Rattle.system.specs.declared.line.Line.{Line as ReportLine}
-use Rattle.system.specs.declared.line.Line.TheVariants.{Fault, Broken, Two, Tick, User}
 use Rattle.system.specs.declared.line.Party.{Party}
 use Rattle.system.specs.declared.line.Premise.{Premise}
 use Rattle.system.specs.Parties.{Parties, Event, ToServer, ToClient, Cuts, Damages, AllWithin, Within, Outcome, blank, happens, places, start}
 use Rattle.system.specs.Watch.{Watch, fault_in, granted, is_tick, knows, or_first, requested, unwatched, watched}
-use Rattle.system.specs.Report.{Play, after, beginning, broken, fault_line, fault_lines, judged, lines, next, nothing, pair, pair_of, played, premise_line, report, rival, sharing, tick_lines, ticks_next, two_line, user_line, user_lines, uses_it}
-use Rattle.system.specs.Promise.{Kept, NamesNoTwo, NeverTwo, any, names_premise, names_two, parties}
+use Rattle.system.specs.Report.{Play, after, beginning, broken, fault_line, fault_lines, judged, lines, next, nothing, pair, pair_of, played, premise_line, rival, sharing, tick_lines, ticks_next, two_line, user_line, user_lines, uses_it}
+use Rattle.system.specs.Promise.{Kept, NamesNoTwo, NeverTwo, any, names_premise, names_two}
 use Rattle.system.proofs.Watching.{Unbroken, unbroken}
-use Rattle.system.proofs.Following.{Moment, Base, Judged, Follows, Unsettled, ticked}
+use Rattle.system.proofs.Following.{Moment, Base, Judged, Follows, ticked}
 use Rattle.system.proofs.Running.{one-event}
 
 -- NO TWO, at any moment

@@ -1,30 +1,29 @@
 -- Each event keeps a run with its world of the lending core, as long as no premise is broken.
 -- Assumes nothing.
-use Rattle.std.proofs.Common.{◌≡◌, ℕ, suc, ◌+◌, ◌^◌, ◌<◌, ◌≤◌, Bool, true, false, cond, not, ◌&&◌, ◌||◌, ltb, leb, ◌⊎◌, List, [], ◌∷◌, ◌++◌, is_some, Some, None, Ok, Err, Option, sym, refl, ap, ◌∙◌, subst, inl, inr, arith}
+use Rattle.std.proofs.Common.{◌≡◌, ℕ, suc, ◌+◌, ◌^◌, ◌<◌, Bool, true, false, ◌&&◌, ltb, leb, List, [], is_some, Some, None, Option, sym, refl, ap, ◌∙◌, subst, inl, inr, arith}
 use Rattle.std.specs.Option.{option_map}
-use Rattle.std.proofs.lemmas.Bool.{both_ways, cases_Bool, cond_both, cond-true, cond-false, leb-false}
+use Rattle.std.proofs.lemmas.Bool.{both_ways, cases_Bool, cond_both, cond-false, leb-false}
 use Rattle.lease.specs.declared.fault.Fault.TheVariants.{CountExhausted}
 use Rattle.lease.specs.Settings as model
 use Rattle.lease.specs.World as core
 use Rattle.lease.specs.Run.{over, server_passes}
-use Rattle.lease.proofs.Options.{none-some}
 use Rattle.lease.proofs.Sound.{same}
 use Rattle.lease.proofs.History.{passes-clock}
 use Rattle.wire.specs.declared.message.Message.{Message}
 use Rattle.wire.specs.declared.message.Message.TheVariants as message
 use Rattle.wire.specs.declared.reader.Reader.TheVariants as reader
-use Rattle.wire.specs.Decode.{Answer, answered}
+use Rattle.wire.specs.Decode.{answered}
 use Rattle.wire.specs.Read.{read}
 use Rattle.server.specs.Server as server
 use Rattle.server.specs.Server.{answers, hears, is_lost, refuses, silently, understood, with_server}
 use Rattle.journal.specs.Crash.{Cut}
 use Rattle.journal.specs.Device.{Device, chosen}
-use Rattle.server.specs.Refines.{Stands, cause_in, model_of}
+use Rattle.server.specs.Refines.{cause_in, model_of}
 use Rattle.server.proofs.Refining.{tick-stands, ticks-on}
 use Rattle.system.specs.Parties.{Parties, Event, ToServer, ToClient, Cuts, Damages, Within, Outcome, cut_by, damaged_by, happens, places, sends, server_does, with_device}
 use Rattle.system.specs.Watch.{Watch, apart, differ, exhausts, grants, is_tick, is_tick_in, knows, noted, or_first, watched}
 use Rattle.system.proofs.Watching.{Unbroken, narrow}
-use Rattle.system.proofs.Following.{Moment, Home, Unsettled, Queues, Base, Judged, Follows, ticked, judge}
+use Rattle.system.proofs.Following.{Moment, Home, Base, Judged, Follows, ticked, judge}
 use Rattle.system.proofs.ServerEvents.{Serves, server-follows}
 use Rattle.system.proofs.Serving as serving
 use Rattle.system.proofs.Serving.{told-first}

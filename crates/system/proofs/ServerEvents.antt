@@ -1,25 +1,23 @@
 -- An event of the server that is no tick keeps a run with its world of the lending core.
 -- Assumes nothing.
-use Rattle.std.proofs.Common.{◌≡◌, ℕ, zero, suc, ◌+◌, ◌-◌, ◌^◌, ◌<◌, ◌≤◌, Bool, true, false, cond, not, ◌&&◌, ◌||◌, ◌⊎◌, List, [], ◌∷◌, ◌++◌, is_some, Some, None, Option, sym, refl, ap, ◌∙◌, subst, inl, inr, arith}
-use Rattle.std.proofs.lemmas.Bool.{both_ways, cases_Bool, and_from, or_parts, cond_both}
+use Rattle.std.proofs.Common.{◌≡◌, ℕ, ◌+◌, ◌^◌, ◌<◌, ◌≤◌, Bool, true, false, ◌||◌, ◌⊎◌, List, [], ◌∷◌, ◌++◌, is_some, Some, Option, sym, refl, ap, ◌∙◌, subst, inl, inr, arith}
+use Rattle.std.proofs.lemmas.Bool.{both_ways, cases_Bool, and_from, cond_both}
 use Rattle.lease.specs.declared.message.Grant as given
 use Rattle.lease.specs.declared.message.Request as asked
-use Rattle.lease.specs.declared.answer.Answer as lent
-use Rattle.lease.specs.declared.answer.Answer.TheVariants.{Unheard, Granted, Refused}
 use Rattle.lease.specs.Settings as model
 use Rattle.lease.specs.Settings.{life}
 use Rattle.lease.specs.World as core
 use Rattle.lease.specs.World.{Message, Requests, Grants, World}
 use Rattle.lease.specs.Run.{answer, crashes, forgets, restarts, serves}
-use Rattle.lease.proofs.Options.{none-some, some_same}
+use Rattle.lease.proofs.Options.{some_same}
 use Rattle.lease.proofs.Claims.{In}
-use Rattle.lease.proofs.Sound.{Sound, same}
+use Rattle.lease.proofs.Sound.{same}
 use Rattle.lease.proofs.History.{restarts-clock}
 use Rattle.server.specs.Server as server
-use Rattle.server.specs.Refines.{AllFrom, Asking, Cause, Crashes, Event, Forgets, Hears, HearsAndCrashes, Passes, Restarts, Rising, Stands, Time, model_of, occur, occurs, sent}
+use Rattle.server.specs.Refines.{AllFrom, Asking, Cause, Crashes, Event, Forgets, Hears, HearsAndCrashes, Passes, Restarts, Rising, Time, model_of, occur, occurs, sent}
 use Rattle.server.specs.Follows.{sent_on}
 use Rattle.system.specs.Parties.{Parties, places}
-use Rattle.system.specs.Watch.{Lead, Watch, requested, granted, same_grant, both_up, noted}
+use Rattle.system.specs.Watch.{Lead, Watch, requested, granted, same_grant, noted}
 use Rattle.system.proofs.Lifting.{serves-keeps, forgets-keeps, Fine, Leans, Lifts, lift}
 use Rattle.system.proofs.Watching.{Wider, At, grant-same, noted-wider, noted-now}
 use Rattle.system.proofs.Following.{Moment, Home, Queues, Base, Near, Judged, ticked, is_up, judge, lately, server-clock, with_leads}

@@ -1,6 +1,6 @@
 -- What the server does at an event that is no tick, as events of the lending core.
 -- Assumes nothing.
-use Rattle.std.proofs.Common.{◌≡◌, ℕ, zero, suc, ◌+◌, ◌-◌, ◌^◌, ◌<◌, ◌≤◌, Bool, true, false, cond, not, ◌&&◌, ◌||◌, ltb, leb, ◌⊎◌, List, [], ◌∷◌, ◌++◌, is_some, Some, None, Ok, Err, Option, sym, refl, ap, ◌∙◌, subst, inl, inr, arith}
+use Rattle.std.proofs.Common.{◌≡◌, ℕ, ◌+◌, ◌^◌, ◌<◌, ◌≤◌, Bool, true, false, ◌&&◌, ◌||◌, ltb, leb, List, [], ◌∷◌, is_some, Some, None, Ok, Err, Option, sym, refl, ap, ◌∙◌, subst, inl, inr, arith}
 use Rattle.std.specs.Option.{option_map}
 use Rattle.std.proofs.lemmas.Bool.{both_ways, cases_Bool, cond_both, cond-true, cond-false, leb-true, leb-false, ltb-true, ltb-false, lt-ltb, and_parts, not-false}
 use Rattle.lease.specs.declared.fault.Fault as lease
@@ -14,7 +14,7 @@ use Rattle.lease.specs.Settings.{valid}
 use Rattle.lease.specs.World as core
 use Rattle.lease.specs.World.{is_silent}
 use Rattle.lease.specs.Table.{Table, empty}
-use Rattle.lease.specs.Run.{answer, crashes, restarts}
+use Rattle.lease.specs.Run.{answer, crashes}
 use Rattle.lease.specs.Stands.{with_table}
 use Rattle.lease.proofs.Options.{none-some, some_same}
 use Rattle.lease.proofs.History.{restarts-clock}
@@ -22,7 +22,7 @@ use Rattle.wire.specs.declared.message.Message.{Message}
 use Rattle.wire.specs.declared.message.Message.TheVariants as message
 use Rattle.wire.specs.declared.reader.Reader.{Reader}
 use Rattle.wire.specs.declared.reader.Reader.TheVariants as reader
-use Rattle.wire.specs.Decode.{Answer, answered, decoded, judged}
+use Rattle.wire.specs.Decode.{Answer, answered, judged}
 use Rattle.wire.specs.Read.{read}
 use Rattle.wire.proofs.Judgement.{by-judgement, refusal}
 use Rattle.journal.specs.Device.{Choice, Device, New, chosen, cursor, is_found}
@@ -34,7 +34,7 @@ use Rattle.server.specs.Server as server
 use Rattle.server.specs.Server.{answers, comes_back, hears, is_lost, pooled, reads, refuses, rereads, restarted, rises, settles, silently, understood, with_server}
 use Rattle.server.specs.Refines.{AllFrom, Asking, Cause, Crashes, Event, Falling, Other, Refines, Restarts, Rising, Stands, Time, cause_in, grants_in, model_of, occur, sent}
 use Rattle.server.proofs.Refining.{cut-refines-all, pooled-none, settling-stands, step-refines}
-use Rattle.system.specs.Parties.{Parties, ToServer, blank, cut_answer, cut_by, damaged_by, places, sends, with_device}
+use Rattle.system.specs.Parties.{Parties, blank, cut_answer, cut_by, damaged_by, sends, with_device}
 use Rattle.system.specs.Watch.{Watch, below, differ, exhausts, grants, is_tick_in, or_first, requested, start_in, unsent_request}
 use Rattle.system.proofs.Watching.{known-first}
 use Rattle.system.proofs.Following.{Base, Unsettled}

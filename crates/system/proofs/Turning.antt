@@ -1,8 +1,8 @@
 -- What a client makes of bytes: it refuses them, or takes a turn by the message that they are, and then may ask.
 -- Assumes nothing.
-use Rattle.std.proofs.Common.{◌≡◌, ℕ, ◌+◌, ◌^◌, ◌<◌, ◌≤◌, Bool, true, false, cond, ◌&&◌, ltb, leb, ◌⊎◌, List, [], ◌∷◌, ◌++◌, IfOk, Some, None, Ok, Err, Option, Result, sym, refl, ap, ◌∙◌, subst, inl, inr, arith}
+use Rattle.std.proofs.Common.{◌≡◌, ℕ, ◌+◌, ◌^◌, ◌<◌, true, false, ltb, leb, ◌⊎◌, List, [], ◌∷◌, IfOk, Some, None, Ok, Err, Option, Result, sym, refl, ap, ◌∙◌, subst, inl, inr, arith}
 use Rattle.std.specs.Option.{option_map}
-use Rattle.std.proofs.lemmas.Bool.{cond_both, cond-true, cond-false, and_parts, leb-true, leb-false, ltb-true}
+use Rattle.std.proofs.lemmas.Bool.{cond_both, cond-false, and_parts, leb-true, leb-false, ltb-true}
 use Rattle.lease.specs.declared.fault.Fault as lease
 use Rattle.lease.specs.declared.message.Grant as given
 use Rattle.lease.specs.Settings as model
@@ -16,9 +16,9 @@ use Rattle.retry.specs.Run.{over}
 use Rattle.wire.specs.declared.message.Message.{Message}
 use Rattle.wire.specs.declared.message.Message.TheVariants.{Request, Grant, Settings, Tick, Crash, Restart, OwnNumber, Nonce, InUse, NoAddress, Fault}
 use Rattle.wire.specs.declared.reader.Reader.TheVariants as reader
-use Rattle.wire.specs.Decode.{Answer, answered, judged}
+use Rattle.wire.specs.Decode.{answered, judged}
 use Rattle.wire.specs.Read.{read}
-use Rattle.client.specs.State.{State, Turn, in_use, until, passes, ticks, crashes, restarts, learns, named, held_by, granted, grants, does}
+use Rattle.client.specs.State.{State, Turn, in_use, until, ticks, crashes, restarts, learns, named, held_by, granted, does}
 use Rattle.client.specs.Client.{Client, Step, keeps, sends, ready, asks_by, asks, queued, refuses, goes_on, answers, size, hears}
 use Rattle.system.specs.Watch.{start_in}
 

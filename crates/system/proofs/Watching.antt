@@ -1,16 +1,15 @@
 -- What is known of a run from a watch that finds no premise broken.
 -- Assumes nothing.
-use Rattle.std.proofs.Common.{◌≡◌, ℕ, zero, suc, ◌+◌, ◌-◌, ◌^◌, ◌<◌, ◌≤◌, min, max, Bool, true, false, cond, not, ◌&&◌, ◌||◌, eqb, ltb, ◌⊎◌, List, [], ◌∷◌, ◌++◌, is_some, Some, None, Option, sym, refl, ap, ◌∙◌, subst, inl, inr, arith}
+use Rattle.std.proofs.Common.{◌≡◌, ℕ, zero, suc, ◌+◌, ◌^◌, ◌<◌, ◌≤◌, min, max, Bool, true, false, not, ◌&&◌, eqb, is_some, Some, None, Option, sym, refl, ap, ◌∙◌, subst, inl, inr, arith}
 use native.Mathlib.Nat.{min-le_left, min-le_right, le-max_left, le-max_right}
-use Rattle.std.proofs.lemmas.Bool.{cond_both, cond-true, cond-false, both_ways, cases_Bool, cases_lt, cases_eq, eqb-true, eqb-false, eq-eqb, ne_eqb, ltb-false, and_parts, or_parts, not-false, not-true}
+use Rattle.std.proofs.lemmas.Bool.{cond_both, cond-true, both_ways, cases_lt, cases_eq, eqb-true, eq-eqb, ne_eqb, ltb-false, and_parts, or_parts, not-false}
 use Rattle.lease.specs.declared.message.Grant as given
 use Rattle.lease.specs.declared.message.Request as asked
 use Rattle.lease.specs.Settings as model
-use Rattle.lease.specs.World.{elem}
 use Rattle.lease.proofs.Options.{none-some, some_same}
 use Rattle.system.specs.declared.line.Premise.{Premise}
 use Rattle.system.specs.Parties.{Parties, Event, Outcome, places}
-use Rattle.system.specs.Watch.{Lead, Watch, any_below, same_request, same_grant, requested, granted, unsent, drawn, any_in, same_number, clash, shares_number, knows, or_first, differ, exhausts, sets_back, lead, widened, both_up, noted, wide, apart, watched, or_else, breaks}
+use Rattle.system.specs.Watch.{Lead, Watch, any_below, same_request, same_grant, unsent, drawn, any_in, same_number, clash, shares_number, knows, or_first, differ, exhausts, sets_back, lead, widened, both_up, noted, wide, apart, or_else, breaks}
 
 -- none below `n` passes the test
 pub none_below : (test : ℕ → Bool) (n : ℕ) → any_below test n ≡ false → (i : ℕ) → i < n → test i ≡ false

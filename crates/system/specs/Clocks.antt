@@ -1,6 +1,6 @@
 -- What it means of the clocks that a report names no broken premise, in the words of the premise.
 -- Assumes nothing.
-use Rattle.std.specs.Prelude.{◌≡◌, ℕ, ◌+◌, ◌<◌, ◌≤◌, Bool, true, false, not, ◌&&◌, ◌||◌, ◌⊎◌, List, [], ◌∷◌, ◌++◌, is_some, Some, ◌≢◌}
+use Rattle.std.specs.Prelude.{◌≡◌, ℕ, ◌+◌, ◌<◌, ◌≤◌, Bool, true, false, ◌&&◌, ◌⊎◌, List, [], ◌∷◌, ◌++◌, is_some, Some, ◌≢◌}
 use Rattle.lease.specs.Settings as model
 use Rattle.lease.specs.Settings.{outlasts}
 use Rattle.system.specs.Parties.{Parties, Event, ToServer, ToClient, Cuts, Damages, AllWithin, happens, heard, places}

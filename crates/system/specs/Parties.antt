@@ -1,6 +1,6 @@
 -- A server with its device and clients, by their own steps over the bytes that they hear, and what can happen to them.
 -- Assumes nothing: any bytes may come to anybody.
-use Rattle.std.specs.Prelude.{ℕ, ◌^◌, ◌<◌, Bool, true, false, cond, ◌&&◌, List, [], ◌∷◌, Some, None, Option, nat_lt}
+use Rattle.std.specs.Prelude.{ℕ, ◌^◌, ◌<◌, cond, ◌&&◌, List, [], ◌∷◌, Some, None, Option, nat_lt}
 use Rattle.lease.specs.declared.answer.Answer as lent
 use Rattle.lease.specs.declared.answer.Answer.TheVariants.{Unheard, Granted, Refused}
 use Rattle.lease.specs.Settings as model

@@ -1,7 +1,6 @@
 -- What is promised of every run of server and clients over bytes, with cut writes, damage and silence.
 -- Assumes nothing but the premises, which a report names where they are broken.
-use Rattle.std.specs.Prelude.{◌≡◌, ℕ, ◌+◌, ◌^◌, ◌<◌, ◌≤◌, Bool, true, false, ◌||◌, List, [], ◌∷◌, Some, None}
-use Rattle.lease.specs.declared.message.Grant as given
+use Rattle.std.specs.Prelude.{◌≡◌, ℕ, ◌+◌, ◌^◌, ◌<◌, ◌≤◌, Bool, true, false, ◌||◌, List, [], ◌∷◌, Some}
 use Rattle.lease.specs.declared.message.Request as asked
 use Rattle.lease.specs.Settings as model
 use Rattle.lease.specs.Holding.{Use}
@@ -16,7 +15,7 @@ use Rattle.client.specs.State.{in_use}
 use Rattle.system.specs.declared.line.Line.{Line}
 use Rattle.system.specs.declared.line.Line.TheVariants.{Fault, Broken, Two, Tick, User}
 use Rattle.system.specs.Parties.{Parties, Event, ToServer, ToClient, AllWithin, Outcome, happens, places}
-use Rattle.system.specs.Report.{Play, beginning, after, report}
+use Rattle.system.specs.Report.{beginning, after, report}
 
 abbrev pub names_premise : Line → Bool
 names_premise (Fault p f) = false

@@ -1,10 +1,10 @@
 -- The first entry of some bytes.
-use Rattle.std.proofs.Common.{◌≡◌, ℕ, ◌+◌, ◌<◌, ◌≤◌, ltb, List, [], ◌∷◌, ◌++◌, length, take, drop, sym, refl, ap, ◌∙◌, ap₂, arith, length-append}
+use Rattle.std.proofs.Common.{◌≡◌, ℕ, ltb, List, ◌++◌, length, take, drop, refl, ap, ◌∙◌, ap₂, arith, length-append}
 use Rattle.std.proofs.lemmas.List.{take_at, drop_at}
 use Rattle.std.proofs.lemmas.Bool.{cond-false, le-ltb}
 use Rattle.wire.specs.Stream.{framed}
 use Rattle.text.specs.declared.fault.Breach.TheVariants.{Short}
-use Rattle.text.specs.Entries.{First, entry, framed_first}
+use Rattle.text.specs.Entries.{entry, framed_first}
 use Rattle.text.specs.Entries.First.{whole, broken}
 
 pub framed-whole : (who : ℕ) (s m rest : List ℕ) → s ≡ framed m ++ rest → framed_first who s ≡ whole (entry who m) rest

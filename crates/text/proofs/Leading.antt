@@ -1,7 +1,7 @@
 -- A line's words, with its party before them, say the entry's bytes.
-use Rattle.std.proofs.Common.{◌≡◌, ℕ, ◌+◌, ◌^◌, ◌<◌, ◌≤◌, Bool, true, false, cond, eqb, List, [], ◌∷◌, ◌++◌, length, drop, Some, None, Ok, codes, decimal, Option, Result, sym, refl, ap, ◌∙◌, subst, arith}
+use Rattle.std.proofs.Common.{◌≡◌, ℕ, ◌+◌, ◌≤◌, Bool, true, false, cond, eqb, List, [], ◌∷◌, ◌++◌, Some, None, Ok, codes, decimal, Option, Result, refl, ap, ◌∙◌, subst, arith}
 use Rattle.std.proofs.lemmas.List.{append_assoc}
-use Rattle.std.proofs.lemmas.Bool.{cond-false, eqb-true, eqb-false, ne_eqb}
+use Rattle.std.proofs.lemmas.Bool.{cond-false, eqb-true, eqb-false}
 use Rattle.text.specs.declared.fault.Mistake.{Mistake}
 use Rattle.text.specs.declared.field.Field.TheVariants as field
 use Rattle.text.specs.declared.form.Form.{Form}
@@ -11,7 +11,7 @@ use Rattle.text.specs.declared.line.Lead.{Lead}
 use Rattle.text.specs.declared.line.Line.{Line}
 use Rattle.text.specs.declared.speech.Speech.{Speech}
 use Rattle.text.specs.Laws.{Party}
-use Rattle.text.specs.Line.{lead, lead_of, boxed, spoke, verbed, led, begins, something, line_of, bytes_of, line_bytes, speech_bytes}
+use Rattle.text.specs.Line.{lead, lead_of, boxed, spoke, verbed, led, begins, something, bytes_of, line_bytes, speech_bytes}
 use Rattle.text.specs.Pieces.{space}
 use Rattle.text.specs.Speech.{Words, word, absent, speech_of}
 use Rattle.text.specs.Told.{spaced, lead_text}

@@ -1,5 +1,5 @@
 -- Bytes are read back from their hexadecimal digits.
-use Rattle.std.proofs.Common.{◌≡◌, ℕ, suc, ◌+◌, ◌-◌, ◌*◌, ◌/◌, ◌%◌, ◌<◌, ◌≤◌, true, false, cond, ◌&&◌, ◌||◌, ltb, leb, List, [], ◌∷◌, ◌++◌, length, refl, ap, ◌∙◌, ap₂, ⊎_elim, arith}
+use Rattle.std.proofs.Common.{◌≡◌, ℕ, ◌+◌, ◌-◌, ◌*◌, ◌/◌, ◌%◌, ◌<◌, ◌≤◌, true, false, cond, ◌&&◌, ◌||◌, ltb, leb, List, [], ◌∷◌, length, refl, ◌∙◌, ap₂, ⊎_elim, arith}
 use Rattle.std.proofs.lemmas.Bool.{cond-true, cond-false, cases_lt, and_from, and_right, or_left, or_right, le-leb, lt-leb, le-ltb, lt-ltb}
 use Rattle.std.specs.List.{AllByRecursion as All}
 use Rattle.text.specs.Hex.{digit, ten, six, nibble, pair, pairs, written, meant}

@@ -1,12 +1,12 @@
 -- An entry is put into the text.
-use Rattle.std.proofs.Common.{◌≡◌, ℕ, List, ◌++◌, sym, ap, ◌∙◌}
+use Rattle.std.proofs.Common.{◌≡◌, ℕ, List, ◌++◌, ap, ◌∙◌}
 use Rattle.text.specs.declared.form.Form.{Form}
 use Rattle.text.specs.declared.sentence.Sentence.{Sentence}
 use Rattle.text.specs.declared.sentence.Spoken.{Spoken}
 use Rattle.text.specs.declared.sentence.Spoken.TheVariants.{Raw, Say}
 use Rattle.text.specs.declared.writing.Run.{Run}
 use Rattle.text.specs.Told.{line_text, body_words}
-use Rattle.text.specs.Write.{run_text, put_text, put_run, no_run}
+use Rattle.text.specs.Write.{run_text, put_text}
 use Rattle.text.proofs.Appending.{joined}
 
 pub raw-put : (new mid old : List ℕ) (f : Form) (r : Run) (who : ℕ) (m : List ℕ) (s t : Spoken) → t ≡ Raw → Raw ≡ s → mid ≡ old ++ run_text f r → new ≡ mid ++ line_text f who (body_words t m) → new ≡ old ++ put_text f r who m s

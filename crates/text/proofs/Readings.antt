@@ -1,12 +1,12 @@
 -- A text is read line by line.
-use Rattle.std.proofs.Common.{◌≡◌, ℕ, ◌+◌, List, [], ◌∷◌, ◌++◌, Ok, Err, Result, sym, refl, ap, ◌∙◌}
+use Rattle.std.proofs.Common.{◌≡◌, ℕ, ◌+◌, List, [], ◌∷◌, ◌++◌, Ok, Err, Result, sym, ap, ◌∙◌}
 use Rattle.std.proofs.lemmas.List.{append-nil}
 use Rattle.text.specs.declared.fault.Mistake.{Mistake}
 use Rattle.text.specs.declared.fault.ReadFault.TheVariants.{Line}
 use Rattle.text.specs.declared.form.Form.{Form}
 use Rattle.text.specs.Line.{line_bytes}
 use Rattle.text.specs.Pieces.{words}
-use Rattle.text.specs.Read.{Answer, reading}
+use Rattle.text.specs.Read.{reading}
 
 settle : (f : Form) (n : ℕ) (out bs : List ℕ) (ls : List (List ℕ)) → reading f n out (Ok bs) ls ≡ reading f n (out ++ bs) (Ok []) ls
 settle f n out bs [] = ap (λ (o : List ℕ). Ok o) (sym (append-nil (out ++ bs)))

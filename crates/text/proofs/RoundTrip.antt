@@ -1,5 +1,5 @@
 -- What is written of a script or a stream is read as the same bytes.
-use Rattle.std.proofs.Common.{◌≡◌, ℕ, zero, suc, ◌+◌, ◌<◌, ◌≤◌, Bool, true, false, cond, ◌&&◌, eqb, ltb, List, [], ◌∷◌, ◌++◌, length, get_or, Some, None, Ok, Err, codes, Option, sym, refl, ap, ◌∙◌, subst, ap₂, arith}
+use Rattle.std.proofs.Common.{◌≡◌, ℕ, zero, suc, ◌+◌, ◌<◌, ◌≤◌, Bool, true, false, cond, ◌&&◌, eqb, ltb, List, [], ◌∷◌, ◌++◌, length, Some, None, Ok, Err, codes, Option, sym, refl, ap, ◌∙◌, subst, arith}
 use Rattle.std.proofs.ByRecursion.{All-from_get_or}
 use Rattle.std.proofs.lemmas.List.{append-nil, append_assoc}
 use Rattle.std.proofs.lemmas.Bool.{and_parts, eqb-true, eqb-false, ltb-true}
@@ -24,16 +24,15 @@ use Rattle.text.specs.Laws.{Bytes, Party, Good, RoundTrip, Written}
 use Rattle.text.specs.Read.{read_text}
 use Rattle.text.specs.Sentence.{said, said_if, spoken_of}
 use Rattle.text.specs.Speech.{Words}
-use Rattle.text.specs.Told.{line_text, body_words, raw_words, said_words}
+use Rattle.text.specs.Told.{line_text}
 use Rattle.text.specs.Write.{run, no_run, run_text, joins, put_text, put_run, told, Answer, writing, write_text}
 use Rattle.text.proofs.Copies.{copies-more}
 use Rattle.text.proofs.Fields.{read_fits}
-use Rattle.text.proofs.Inverse.{Octets, Back, back}
+use Rattle.text.proofs.Inverse.{Octets, back}
 use Rattle.text.proofs.Lines.{Reads, tick-bytes, line_reads, run-reads}
 use Rattle.text.proofs.Naming.{verb-back, fair-name}
 use Rattle.text.proofs.Nibbles.{hexed}
 use Rattle.text.proofs.Saying.{Says, raw-says}
-use Rattle.text.proofs.Sentences as sentences
 use Rattle.text.proofs.Sentences.{said-args, sentence-back}
 use Rattle.text.proofs.Spelling.{Fairs}
 use Rattle.text.proofs.Whole.{entries-of}

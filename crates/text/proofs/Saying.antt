@@ -1,7 +1,7 @@
 -- What words say is what they were written of.
-use Rattle.std.proofs.Common.{◌≡◌, ℕ, ◌+◌, ◌*◌, ◌/◌, ◌^◌, ◌<◌, ◌≤◌, Bool, true, false, cond, eqb, ltb, List, [], ◌∷◌, ◌++◌, length, get_or, drop, Some, None, Ok, Err, decimal, Option, Result, sym, refl, ap, ◌∙◌, subst, ap₂, add-zero, arith}
+use Rattle.std.proofs.Common.{◌≡◌, ℕ, ◌+◌, ◌/◌, ◌^◌, ◌<◌, ◌≤◌, Bool, true, false, cond, eqb, ltb, List, [], ◌∷◌, ◌++◌, length, get_or, drop, Some, Ok, Err, decimal, Option, Result, sym, refl, ap, ◌∙◌, ap₂, add-zero, arith}
 use Rattle.std.proofs.lemmas.List.{get_or-drop, nil_from_length}
-use Rattle.std.proofs.lemmas.Bool.{cond-true, cond-false, eqb-true, eqb-false, ne_eqb, le-ltb}
+use Rattle.std.proofs.lemmas.Bool.{cond-true, cond-false, eqb-true, ne_eqb, le-ltb}
 use Rattle.std.specs.List.{AllByRecursion as All}
 use Rattle.wire.specs.declared.message.Message.{Message}
 use Rattle.wire.specs.declared.message.Message.TheVariants as m
@@ -24,10 +24,9 @@ use Rattle.text.specs.Hex.{pairs, written, meant}
 use Rattle.text.specs.Kind.{fields, count}
 use Rattle.text.specs.Line.{speech_bytes}
 use Rattle.text.specs.Sentence.{figures, message_of}
-use Rattle.text.specs.Speech.{Words, word, absent, mistake, ranged, figure_at, figure_if, all, figures_at, ended, told, concluded, repeating, speech_of}
+use Rattle.text.specs.Speech.{Words, word, absent, mistake, ranged, figure_at, figure_if, all, ended, told, concluded, repeating, speech_of}
 use Rattle.text.proofs.Nibbles.{Hexed, hexed}
 use Rattle.text.proofs.Numerals.{number-back, fair-decimal}
-use Rattle.text.proofs.Spelling.{Fair}
 
 -- behind a verb, wherever these words stand, they say these bytes
 abbrev pub Says : Form → ℕ → Verb → Words → List ℕ → Type 0

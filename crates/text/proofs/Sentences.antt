@@ -1,5 +1,5 @@
 -- Each message is said back by its sentence.
-use Rattle.std.proofs.Common.{◌≡◌, ℕ, ◌+◌, ◌^◌, ◌<◌, ◌≤◌, List, [], ◌∷◌, ◌++◌, get_or, drop, Some, None, Ok, decimal, refl, ap, ◌∙◌, subst, arith}
+use Rattle.std.proofs.Common.{◌≡◌, ℕ, ◌+◌, ◌≤◌, [], ◌++◌, get_or, drop, Some, Ok, decimal, refl, ap, ◌∙◌, subst, arith}
 use Rattle.std.specs.Option.{option_map}
 use Rattle.lease.specs.declared.fault.Fault as lease
 use Rattle.lease.specs.declared.fault.Fault.TheVariants.{Malformed, BadAddress, OtherClient, NotWaiting, TooLate, NoneFree, BadSettings, TableLost, CountExhausted}
@@ -16,13 +16,13 @@ use Rattle.text.specs.declared.kind.Kind.{Kind}
 use Rattle.text.specs.declared.kind.Kind.TheVariants as k
 use Rattle.text.specs.declared.kind.Verb.TheVariants as verb
 use Rattle.text.specs.declared.sentence.Sentence.{Sentence}
-use Rattle.text.specs.declared.sentence.Spoken.TheVariants.{Tick, Say}
+use Rattle.text.specs.declared.sentence.Spoken.TheVariants.{Say}
 use Rattle.text.specs.Entry.{entry_bytes}
-use Rattle.text.specs.Kind.{name, fields}
+use Rattle.text.specs.Kind.{fields}
 use Rattle.text.specs.Sentence.{figures, said}
 use Rattle.text.specs.Speech.{Words, figure_at}
 use Rattle.text.specs.Told.{figure_words}
-use Rattle.text.proofs.Saying.{Says, In, Stand, word_at, word_first, figure-back, said-by}
+use Rattle.text.proofs.Saying.{Says, In, word_at, word_first, figure-back, said-by}
 use Rattle.text.proofs.Spelling.{Fairs}
 use Rattle.text.proofs.Numerals.{fair-decimal}
 

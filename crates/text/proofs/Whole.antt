@@ -6,7 +6,7 @@ use Rattle.wire.specs.Stream.{framed}
 use Rattle.text.specs.declared.fault.Breach.TheVariants as breach
 use Rattle.text.specs.declared.form.Form.{Form}
 use Rattle.text.specs.declared.form.Form.TheVariants.{Script, Stream}
-use Rattle.text.specs.Entries.{Entry, entry, First, Found, framed_first, first_entry, behind, entries, bytes_of}
+use Rattle.text.specs.Entries.{Entry, entry, Found, framed_first, first_entry, behind, entries, bytes_of}
 use Rattle.text.specs.Entries.First.{whole, broken}
 use Rattle.text.specs.Entry.{entry_bytes}
 use Rattle.text.specs.Laws.{Good}

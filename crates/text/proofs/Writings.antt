@@ -9,7 +9,7 @@ use Rattle.text.specs.Entries as entries
 use Rattle.text.specs.Entries.{First, Found, entries, first_entry, from_first, behind}
 use Rattle.text.specs.Entries.First.{whole, broken}
 use Rattle.text.specs.Sentence.{spoken_of}
-use Rattle.text.specs.Write.{Answer, run_text, put_text, put_run, told, writing}
+use Rattle.text.specs.Write.{run_text, put_text, put_run, told, writing}
 use Rattle.text.proofs.Splitting.{by_first, entries_none}
 
 -- the entry is put, and the others are as before

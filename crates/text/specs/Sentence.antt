@@ -11,7 +11,6 @@ use Rattle.text.specs.declared.kind.Fields.{Fields}
 use Rattle.text.specs.declared.kind.Kind.{Kind}
 use Rattle.text.specs.declared.kind.Kind.TheVariants.{Settings, Number, Nonce, Request, Grant, Crash, Restart, InUse, NoAddress, Fault}
 use Rattle.text.specs.declared.sentence.Figures.{Figures}
-use Rattle.text.specs.declared.sentence.Sentence.{Sentence}
 use Rattle.text.specs.declared.sentence.Spoken.{Spoken}
 use Rattle.text.specs.declared.sentence.Spoken.TheVariants.{Tick, Raw, Say}
 use Rattle.text.specs.Field.{range}

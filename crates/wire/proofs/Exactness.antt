@@ -1,5 +1,5 @@
 -- A byte string that is read as a message is that message's own.
-use Rattle.std.proofs.Common.{◌≡◌, ℕ, zero, suc, ◌+◌, cond, eqb, List, [], ◌∷◌, ◌++◌, length, get_or, drop, Some, None, Ok, Option, sym, refl, ap, ◌∙◌, ap₂, arith}
+use Rattle.std.proofs.Common.{◌≡◌, ℕ, zero, suc, ◌+◌, eqb, List, [], ◌∷◌, ◌++◌, length, get_or, drop, Some, None, Ok, Option, sym, refl, ap, ◌∙◌, ap₂, arith}
 use Rattle.std.proofs.lemmas.List.{drop_all, drop_more}
 use Rattle.std.proofs.lemmas.Bool.{cond_both, eqb-true}
 use Rattle.std.specs.Option.{option_map}
@@ -15,7 +15,7 @@ use Rattle.wire.specs.Decode.{answered, decoded}
 use Rattle.wire.specs.Kind.{table, kind_of, kinds, numbered}
 use Rattle.wire.specs.Laws.{Taken}
 use Rattle.wire.specs.Meant.{Meant}
-use Rattle.wire.specs.Message.{kind, encoded}
+use Rattle.wire.specs.Message.{encoded}
 use Rattle.wire.specs.Numbers.{be8, bytes8}
 use Rattle.wire.specs.Read.{read, read_as, fields_at, fault_of, faults}
 use Rattle.wire.specs.Read as reading

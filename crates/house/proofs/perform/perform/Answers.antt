@@ -1,7 +1,7 @@
-use Rattle.std.proofs.Common.{◌+◌, ◌++◌, get_or, take, drop, sym, ap, subst}
+use Rattle.std.proofs.Common.{subst}
 use Rattle.std.proofs.lemmas.List.{take_all}
 use Rattle.server.specs.declared.effect.Effect.TheVariants.{Persist}
-use Rattle.house.specs.Acts.{Grows, Partly, acts, bytes_in}
+use Rattle.house.specs.Acts.{Grows, acts, bytes_in}
 use Rattle.house.proofs.Doing.{acts-stop, acts-more}
 use Rattle.house.proofs.perform.perform.Goals as goal
 

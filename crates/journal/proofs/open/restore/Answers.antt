@@ -1,4 +1,4 @@
-use Rattle.std.proofs.Common.{◌≡◌, ℕ, ◌+◌, ◌<◌, Bool, ◌≢◌, List, [], length, get_or, None, Option, sym, ap, ◌∙◌, ap₂, arith, get_or-set_other, get_or-set_same, below_more}
+use Rattle.std.proofs.Common.{◌+◌, ◌≢◌, [], get_or, None, Option, ap, ◌∙◌, arith, get_or-set_other, get_or-set_same, below_more}
 use Rattle.journal.specs.declared.record.Record.{Record}
 use Rattle.journal.specs.Bytes.{zeros, place_from, place_of}
 use Rattle.journal.specs.Row.{table_of}

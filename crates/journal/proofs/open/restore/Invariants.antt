@@ -1,4 +1,4 @@
-use Rattle.std.proofs.Common.{◌≡◌, ℕ, ◌+◌, ◌*◌, ◌<◌, ◌≤◌, [], length, get_or, None}
+use Rattle.std.proofs.Common.{◌≡◌, ℕ, ◌+◌, ◌<◌, [], length, get_or, None}
 use Rattle.journal.specs.Bytes.{place_of}
 use Rattle.journal.specs.Row.{table_of}
 use Rattle.journal.proofs.open.restore.Given as goal

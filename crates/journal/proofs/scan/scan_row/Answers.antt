@@ -1,4 +1,4 @@
-use Rattle.std.proofs.Common.{ℕ, ◌+◌, Bool, List, [], get_or, Option, refl, ap₂}
+use Rattle.std.proofs.Common.{◌+◌, Bool, [], get_or, Option, refl, ap₂}
 use Rattle.journal.specs.declared.record.Record.{Record}
 use Rattle.journal.specs.Bytes.{place_from, place_of}
 use Rattle.journal.specs.Image.{scanned}

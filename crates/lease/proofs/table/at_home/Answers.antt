@@ -1,4 +1,4 @@
-use Rattle.std.proofs.Common.{◌≡◌, Option, sym, ap, arith}
+use Rattle.std.proofs.Common.{Option, sym, ap, arith}
 use Rattle.lease.specs.declared.lease.Lease.{Lease}
 use Rattle.lease.specs.Table.{at_home}
 use Rattle.lease.proofs.Places.{table-past}

@@ -1,4 +1,4 @@
-use Rattle.std.proofs.Common.{◌≡◌, List, [], ◌∷◌, ◌++◌, vec_items, vec_len, sym, refl, ap, ◌∙◌, subst, arith, rules}
+use Rattle.std.proofs.Common.{◌≡◌, List, [], ◌∷◌, ◌++◌, vec_items, sym, refl, subst, arith, rules}
 use mathlib.Core.Path.{fun_ext}
 use Rattle.client.specs.declared.client.Client as code
 use Rattle.replay.proofs.Places.{AllNew, all-new-more}

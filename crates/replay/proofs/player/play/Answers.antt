@@ -1,14 +1,14 @@
-use Rattle.std.proofs.Common.{◌≡◌, ℕ, List, ◌++◌, map, vec_items, sym, refl, ap, ◌∙◌, subst, inl, inr}
+use Rattle.std.proofs.Common.{ℕ, List, ◌++◌, map, vec_items, sym, refl, ap, ◌∙◌, subst, inl, inr}
 use Rattle.script.specs.declared.entry.Entry.{Entry}
 use Rattle.script.specs.declared.entry.Unread.{Unread}
 use Rattle.script.specs.declared.entry.Unread.TheVariants.{Fault, NoMemory}
 use Rattle.script.specs.Script.{Failed, part_of}
 use Rattle.system.specs.declared.line.Line.{Line}
-use Rattle.system.specs.Report.{Play, played, report}
+use Rattle.system.specs.Report.{Play, played}
 use Rattle.system.proofs.Promise.{names-no-two}
 use Rattle.replay.specs.declared.player.Stopped.{Stopped}
 use Rattle.replay.specs.Of.{play_of}
-use Rattle.replay.specs.Played.{Unplayed, events_in, events_of, stopped_by}
+use Rattle.replay.specs.Played.{Unplayed, events_in, stopped_by}
 use Rattle.replay.proofs.Plays.{within_all}
 use Rattle.replay.proofs.player.play.Goals as goal
 

@@ -1,4 +1,4 @@
-use Rattle.std.proofs.Common.{◌≡◌, ℕ, Bool, ap, ◌∙◌, arith}
+use Rattle.std.proofs.Common.{◌≡◌, ℕ, ap, ◌∙◌, arith}
 use Rattle.system.specs.Watch.{any_below, wide}
 use Rattle.replay.specs.Watch.{leads_of}
 use Rattle.replay.proofs.Places.{any_none, any-more}

@@ -1,5 +1,5 @@
 use Rattle.std.proofs.Common.{◌≡◌, ◌++◌, drop}
-use Rattle.system.specs.Watch.{grant_of, grants}
+use Rattle.system.specs.Watch.{grants}
 use Rattle.replay.specs.Watch.{grants_of}
 use Rattle.replay.proofs.watch_steps.note_grants.Given as goal
 

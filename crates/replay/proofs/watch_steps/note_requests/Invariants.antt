@@ -1,5 +1,5 @@
 use Rattle.std.proofs.Common.{◌≡◌, ◌++◌, drop}
-use Rattle.client.specs.Nonces.{request, requests}
+use Rattle.client.specs.Nonces.{requests}
 use Rattle.replay.specs.Watch.{requests_of}
 use Rattle.replay.proofs.watch_steps.note_requests.Given as goal
 

@@ -1,4 +1,4 @@
-use Rattle.std.proofs.Common.{ℕ, List, ◌∷◌, length, sym, ◌∙◌, ap₂, arith, length-append}
+use Rattle.std.proofs.Common.{ℕ, List, ◌∷◌, sym, ◌∙◌, ap₂, arith}
 use Rattle.text.specs.Pieces.{pieces}
 use Rattle.text.proofs.Cutting.{Found, pieces-at, behind, behind-end}
 use Rattle.text.proofs.piece.split.Goals as goal

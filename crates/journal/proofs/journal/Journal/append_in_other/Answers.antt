@@ -1,9 +1,9 @@
-use Rattle.std.proofs.Common.{◌≡◌, ℕ, suc, ◌+◌, ◌*◌, ◌<◌, ◌≤◌, List, [], ◌∷◌, ◌++◌, length, vec_items, sym, refl, ap, ◌∙◌, arith}
+use Rattle.std.proofs.Common.{◌≡◌, ℕ, suc, ◌+◌, ◌*◌, List, [], ◌∷◌, ◌++◌, length, vec_items, sym, ap, ◌∙◌, arith}
 use Rattle.lease.specs.declared.lease.Lease.{Lease}
 use Rattle.journal.specs.declared.journal.Journal.{Journal}
-use Rattle.journal.specs.Table.{Table, keeping}
+use Rattle.journal.specs.Table.{keeping}
 use Rattle.journal.specs.Device.{Side, Cursor, other}
-use Rattle.journal.specs.Image.{index, side_of, table_in}
+use Rattle.journal.specs.Image.{index, table_in}
 use Rattle.journal.specs.Memory.{Copied, copied_to, cursor_of, places_of}
 use Rattle.journal.proofs.Copies.{one-copied}
 use Rattle.journal.proofs.Memories.{index_at}

@@ -1,4 +1,4 @@
-use Rattle.std.proofs.Common.{◌≡◌, ℕ, ◌<◌, ◌≤◌, List, [], length, vec_items, sym, refl, ap, ◌∙◌, subst, arith}
+use Rattle.std.proofs.Common.{◌≡◌, ℕ, ◌≤◌, List, length, vec_items, sym, refl, ap, ◌∙◌, subst, arith}
 use Rattle.lease.specs.declared.lease.Lease.{Lease}
 use Rattle.journal.specs.Table.{Table, keeping}
 use Rattle.journal.specs.Device.{Cursor}

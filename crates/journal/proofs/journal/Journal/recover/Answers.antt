@@ -1,4 +1,4 @@
-use Rattle.std.proofs.Common.{◌≡◌, ℕ, ◌+◌, ◌*◌, ◌<◌, ◌≤◌, List, [], length, get_or, None, vec_items, sym, refl, ap, ◌∙◌, subst, arith}
+use Rattle.std.proofs.Common.{◌≡◌, ℕ, ◌+◌, ◌*◌, ◌<◌, ◌≤◌, List, [], length, get_or, None, vec_items, refl, ap, ◌∙◌, subst, arith}
 use Rattle.journal.specs.declared.open.Reading.{Reading}
 use Rattle.journal.specs.Bytes.{place_of}
 use Rattle.journal.specs.Row.{table_of}

@@ -1,4 +1,4 @@
-use Rattle.std.proofs.Common.{◌≡◌, ℕ, List, get_or, set, vec_items, sym, refl, ap, ◌∙◌, ap₂, arith}
+use Rattle.std.proofs.Common.{ℕ, List, get_or, set, vec_items, sym, refl, ap, ◌∙◌, ap₂, arith}
 use Rattle.journal.specs.Image.{device_of, side_of, unread}
 use Rattle.journal.specs.Bytes.{decoded}
 use Rattle.journal.specs.Memory.{cursor_of, next_record}

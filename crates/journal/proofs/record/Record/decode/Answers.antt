@@ -1,5 +1,4 @@
-use Rattle.std.proofs.Common.{◌≡◌, ℕ, List, Some, sym, ap, ◌∙◌}
-use Rattle.journal.specs.declared.record.Record.{Record}
+use Rattle.std.proofs.Common.{◌≡◌, Some, sym, ◌∙◌}
 use Rattle.journal.specs.Bytes.{decoded, fields_of}
 use Rattle.journal.proofs.Codes.{decoded-short, decoded-unfit, decoded-fit, zeros-are-blank}
 use Rattle.journal.proofs.record.Record.decode.Goals as goal

@@ -1,4 +1,4 @@
-use Rattle.std.proofs.Common.{◌≡◌, ℕ, List, [], ◌++◌, length, take, drop, Some, sym, refl, ap, ◌∙◌, subst, append-nil, le_of_eq, arith}
+use Rattle.std.proofs.Common.{◌≡◌, ℕ, List, [], ◌++◌, length, take, drop, refl, ap, ◌∙◌, append-nil, le_of_eq, arith}
 use Rattle.std.proofs.lemmas.List.{drop_all, take_at}
 use Rattle.checksum.specs.Crc.{crc}
 use Rattle.journal.specs.declared.record.Record.{Record}

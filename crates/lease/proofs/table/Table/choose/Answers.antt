@@ -1,4 +1,4 @@
-use Rattle.std.proofs.Common.{◌≡◌, ℕ, Some, vec_items, Option, rules}
+use Rattle.std.proofs.Common.{◌≡◌, Some, vec_items, rules}
 use Rattle.lease.specs.Table.{table_of}
 use Rattle.lease.specs.Choosing.{choose}
 use Rattle.lease.proofs.Choosing.{laws}

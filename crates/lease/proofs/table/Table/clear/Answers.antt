@@ -1,4 +1,4 @@
-use Rattle.std.proofs.Common.{◌≡◌, ℕ, ◌<◌, List, length, set, None, vec_items, Option, ap, ◌∙◌, inl, inr, arith, below_more}
+use Rattle.std.proofs.Common.{◌≡◌, ◌<◌, List, length, set, None, vec_items, Option, ap, ◌∙◌, inl, inr, arith, below_more}
 use mathlib.Core.Path.{fun_ext}
 use Rattle.lease.specs.declared.lease.Lease.{Lease}
 use Rattle.lease.specs.Table.{table_of}

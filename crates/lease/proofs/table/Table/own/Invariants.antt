@@ -1,4 +1,4 @@
-use Rattle.std.proofs.Common.{◌≡◌, ℕ, ◌-◌, vec_items}
+use Rattle.std.proofs.Common.{◌≡◌, ◌-◌, vec_items}
 use Rattle.lease.specs.Table.{table_of, owned}
 use Rattle.lease.specs.Choosing.{lowest}
 use Rattle.lease.proofs.table.Table.own.Given as goal

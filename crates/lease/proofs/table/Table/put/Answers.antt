@@ -5,7 +5,7 @@ use Rattle.lease.proofs.table.Table.put.Goals as goal
 pub invariant_of-self : goal.invariant_of-self
 invariant_of-self c =
     let h : c.args.address < length (vec_items c.args.self.now.leases) = omega (arith, c.args.self.now.leases.ok.0) in
-    let g : c.args.address < length (vec_items c.args.self.now.clients) = omega (arith, c.args.self.now.clients.ok.0) in 
+    let g : c.args.address < length (vec_items c.args.self.now.clients) = omega (arith, c.args.self.now.clients.ok.0) in
     record {
       sized = c.args.self.now.sized;
       placed = placed-put (vec_items c.args.self.now.leases) c.args.address c.args.lease h c.requires.1 c.args.self.now.placed;

@@ -1,4 +1,4 @@
-use Rattle.std.proofs.Common.{◌≡◌, ◌<◌, List, length, vec_items, Option, sym, ap, ◌∙◌, arith}
+use Rattle.std.proofs.Common.{sym, ap, arith}
 use Rattle.lease.specs.declared.lease.Lease.{Lease}
 use Rattle.lease.proofs.Options.{some_same}
 use Rattle.lease.proofs.table.Table.restore.Goals as goal

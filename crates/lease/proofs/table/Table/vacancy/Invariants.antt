@@ -1,4 +1,4 @@
-use Rattle.std.proofs.Common.{◌≡◌, ℕ, ◌-◌, None, vec_items}
+use Rattle.std.proofs.Common.{◌≡◌, ◌-◌, None, vec_items}
 use Rattle.lease.specs.Table.{table_of, vacant}
 use Rattle.lease.specs.Choosing.{lowest}
 use Rattle.lease.proofs.table.Table.vacancy.Given as goal

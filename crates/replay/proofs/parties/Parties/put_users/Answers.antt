@@ -1,4 +1,4 @@
-use Rattle.std.proofs.Common.{vec_items, refl}
+use Rattle.std.proofs.Common.{vec_items}
 use Rattle.replay.specs.Parties.{parties_of}
 use Rattle.replay.proofs.Users.{users-start, users-turn, users-end}
 use Rattle.replay.proofs.parties.Parties.put_users.Goals as goal

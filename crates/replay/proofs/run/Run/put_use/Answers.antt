@@ -1,4 +1,4 @@
-use Rattle.std.proofs.Common.{◌≡◌, ℕ, List, [], ◌∷◌, ◌++◌, vec_items, ap, ◌∙◌, append_assoc}
+use Rattle.std.proofs.Common.{ℕ, List, [], ◌∷◌, ◌++◌, vec_items, ap, ◌∙◌, append_assoc}
 use Rattle.system.specs.declared.line.Line.{Line}
 use Rattle.system.specs.declared.line.Line.TheVariants.{Tick}
 use Rattle.system.specs.Report.{user_lines}

@@ -1,4 +1,4 @@
-use Rattle.std.proofs.Common.{◌≡◌, ℕ, List, ◌++◌, vec_items, Option, refl, ap, ◌∙◌}
+use Rattle.std.proofs.Common.{◌≡◌, ℕ, List, ◌++◌, vec_items, ap, ◌∙◌}
 use Rattle.wire.specs.declared.message.Message.{Message}
 use Rattle.wire.specs.Read.{read}
 use Rattle.system.specs.Watch.{watched}

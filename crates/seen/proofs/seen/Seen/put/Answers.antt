@@ -20,7 +20,7 @@ invariant_of-self c =
     ∙ ap (λ (n : ℕ). newest (bucket_at xs) n (length xs)) c.bucket-bucket.ensures.value in
     let long : length ls ≡ length xs = sym c.args.self.now.links.ok.0 ∙ c.args.self.now.paired ∙ c.args.self.now.stamps.ok.0 in
     let count : c.len.result ≡ length xs + 1
-    = c.len.ensures ∙ c.push_reserved-2.ensures.len ∙ ap (λ (n : ℕ). n + 1) c.args.self.now.stamps.ok.0 in 
+    = c.len.ensures ∙ c.push_reserved-2.ensures.len ∙ ap (λ (n : ℕ). n + 1) c.args.self.now.stamps.ok.0 in
     record {
       paired = search rules;
       wide = c.args.self.now.wide;

@@ -1,7 +1,7 @@
-use Rattle.std.proofs.Common.{◌≡◌, ◌<◌, false, length, vec_items, sym, refl, ap, ◌∙◌, arith, rules}
+use Rattle.std.proofs.Common.{◌<◌, false, length, vec_items, sym, refl, ap, ◌∙◌, arith, rules}
 use Rattle.lease.specs.World as world
 use Rattle.lease.specs.Stands.{server_of}
-use Rattle.simulation.specs.Play.{clients_of, messages_of}
+use Rattle.simulation.specs.Play.{messages_of}
 use Rattle.simulation.proofs.Parties.{client-read}
 use Rattle.simulation.proofs.Steps.{put}
 use Rattle.simulation.proofs.simulation.Simulation.client_crashes.Goals as goal

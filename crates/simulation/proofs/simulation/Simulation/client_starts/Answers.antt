@@ -1,4 +1,4 @@
-use Rattle.std.proofs.Common.{◌≡◌, ℕ, ◌<◌, true, length, vec_items, refl, ap, ◌∙◌, arith, rules}
+use Rattle.std.proofs.Common.{ℕ, ◌<◌, true, length, vec_items, refl, ap, ◌∙◌, arith, rules}
 use Rattle.lease.specs.World as world
 use Rattle.lease.specs.Stands.{server_of}
 use Rattle.simulation.specs.Play.{messages_of}

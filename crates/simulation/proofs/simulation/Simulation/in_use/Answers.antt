@@ -1,4 +1,4 @@
-use Rattle.std.proofs.Common.{◌≡◌, vec_items, sym, ap, ◌∙◌, arith}
+use Rattle.std.proofs.Common.{vec_items, sym, ap, ◌∙◌, arith}
 use Rattle.lease.specs.World as world
 use Rattle.lease.specs.declared.holding.Holding.{Holding}
 use Rattle.lease.specs.Of.{holding_of}

@@ -1,4 +1,4 @@
-use Rattle.std.proofs.Common.{◌≡◌, List, [], ◌∷◌, ◌++◌, Some, vec_items, sym, refl, ap, ◌∙◌}
+use Rattle.std.proofs.Common.{List, [], ◌∷◌, ◌++◌, Some, vec_items, sym, refl, ap, ◌∙◌}
 use Rattle.lease.specs.declared.settings.Settings.{Settings}
 use Rattle.lease.specs.World as world
 use Rattle.lease.specs.Of.{settings_of}

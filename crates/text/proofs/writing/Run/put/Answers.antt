@@ -1,4 +1,4 @@
-use Rattle.std.proofs.Common.{vec_items, sym, ap, ◌∙◌}
+use Rattle.std.proofs.Common.{vec_items, ap, ◌∙◌}
 use Rattle.text.specs.declared.sentence.Spoken.{Spoken}
 use Rattle.text.specs.Sentence.{spoken_of}
 use Rattle.text.specs.Write.{put_run}
