@@ -6,7 +6,7 @@ Usage: tools/planted.py CRATE [CRATE..]
 Reads tools/planted/CRATE.txt: blocks of three lines (file, old, new; no third where the
 text is dropped) with a blank line between them; `\\n` stands for a line break. `old` must stand in the file; `#2 ` before it picks its second occurrence. A block whose first
 line begins with `harmless` is a change that alters nothing, and is expected to pass; the reason stands behind it.
-The check is `rt dev`, which is quick and no verdict: what it refuses is refused, what it passes is looked at.
+The check is `rt check`, which is quick and no verdict: what it refuses is refused, what it passes is looked at.
 """
 import pathlib, shutil, subprocess, sys, tempfile
 
@@ -39,13 +39,11 @@ def place(text, old):
 def main(crates):
     with tempfile.TemporaryDirectory() as tmp:
         copy = pathlib.Path(tmp) / "copy"
-        shutil.copytree(root, copy, ignore=shutil.ignore_patterns(".git", "target"))
-        if (root / "target").exists():
-            shutil.copytree(root / "target", copy / "target")
+        shutil.copytree(root, copy, ignore=shutil.ignore_patterns(".git", "bin", "out"))
         totals = {"refused": 0, "passed": 0, "harmless": 0}
         for crate in crates:
-            check = ["rt", "dev", crate]
-            if subprocess.run(check, cwd=copy, capture_output=True).returncode != 0:
+            check, where = ["rt", "check"], copy / "crates" / crate
+            if subprocess.run(check, cwd=where, capture_output=True).returncode != 0:
                 sys.exit(f"{crate}: the check fails before anything is planted")
             for harmless, file, old, new in blocks(crate):
                 path = copy / "crates" / crate / file
@@ -54,7 +52,7 @@ def main(crates):
                 if at < 0:
                     sys.exit(f"{crate}: {file} has no {old!r}")
                 path.write_text(text[:at] + new + text[at + len(old):])
-                refused = subprocess.run(check, cwd=copy, capture_output=True).returncode != 0
+                refused = subprocess.run(check, cwd=where, capture_output=True).returncode != 0
                 path.write_text(text)
                 verdict = "refused" if refused else "harmless" if harmless else "passed"
                 totals[verdict] += 1

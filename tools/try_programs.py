@@ -1,5 +1,5 @@
 #!/usr/bin/env python3
-"""Tries the programs as a user would, against the rules as tools/programs.py has them. First: rt check box_ house."""
+"""Tries the programs as a user would, against the rules as tools/programs.py has them. First: tools/build.sh house box_."""
 import os
 import random
 import resource
@@ -13,8 +13,8 @@ import tempfile
 sys.path.insert(0, os.path.dirname(os.path.abspath(__file__)))
 from programs import *  # noqa: E402,F403
 
-BIN = os.path.join(os.path.dirname(os.path.abspath(__file__)), "..", "target", "bin")
-HOUSE, BOX = os.path.join(BIN, "house"), os.path.join(BIN, "box_")
+BIN = os.path.join(os.path.dirname(os.path.abspath(__file__)), "..", "bin")
+HOUSE, BOX = os.path.join(BIN, "house"), os.path.join(BIN, "box")
 FAILED = []
 
 

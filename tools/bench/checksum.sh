@@ -2,14 +2,14 @@
 # Builds the proved checksum and its twin in plain Rust, runs both, and prints megabytes a second and the ratio.
 set -euo pipefail
 cd "$(dirname "$0")/../.."
-mkdir -p target/bench
-rt check checksum_bench > target/bench/checksum.log || { cat target/bench/checksum.log; exit 1; }
-rustc -O -o target/bench/checksum tools/bench/checksum.rs
+mkdir -p bin/bench
+tools/build.sh checksum_bench > /dev/null
+rustc -O -o bin/bench/checksum tools/bench/checksum.rs
 
 # in turn, so that a busy machine disturbs both alike
 for turn in 1 2 3; do
-  target/bin/checksum_bench time | sed 's/^/proved /'
-  target/bench/checksum | sed 's/^/twin /'
+  bin/checksum_bench time | sed 's/^/proved /'
+  bin/bench/checksum | sed 's/^/twin /'
 done | awk '
   { sums[$1] = $3; for (i = 4; i < NF; i += 2) if (!(($1, $i) in best) || $(i + 1) < best[$1, $i]) best[$1, $i] = $(i + 1) }
   function line(kind, mebibytes) {

@@ -2,14 +2,14 @@
 # Builds the proved journal and its twin in plain Rust, runs both, and prints the time of a recovery, appends a second, and the ratios.
 set -euo pipefail
 cd "$(dirname "$0")/../.."
-mkdir -p target/bench
-rt check journal_bench > target/bench/journal.log || { cat target/bench/journal.log; exit 1; }
-rustc --edition 2021 -O -o target/bench/journal tools/bench/journal.rs
+mkdir -p bin/bench
+tools/build.sh journal_bench > /dev/null
+rustc --edition 2021 -O -o bin/bench/journal tools/bench/journal.rs
 
 # in turn, so that a busy machine disturbs both alike
 for turn in 1 2 3; do
-  target/bin/journal_bench time | sed 's/^/proved /'
-  target/bench/journal | sed 's/^/twin /'
+  bin/journal_bench time | sed 's/^/proved /'
+  bin/bench/journal | sed 's/^/twin /'
 done | awk '
   { sums[$1] = $3; for (i = 4; i < NF; i += 2) if (!(($1, $i) in best) || $(i + 1) < best[$1, $i]) best[$1, $i] = $(i + 1) }
   function appends(kind, words) {

@@ -3,15 +3,15 @@
 # then the program house end to end, with its device in memory and on disk.
 set -euo pipefail
 cd "$(dirname "$0")/../.."
-mkdir -p target/bench
-rt check server_bench house > target/bench/server.log || { cat target/bench/server.log; exit 1; }
-rustc --edition 2021 -O -o target/bench/server tools/bench/server.rs
-cmp <(target/bin/server_bench) <(target/bench/server) || { echo "the answers differ"; exit 1; }
+mkdir -p bin/bench
+tools/build.sh server_bench house > /dev/null
+rustc --edition 2021 -O -o bin/bench/server tools/bench/server.rs
+cmp <(bin/server_bench) <(bin/bench/server) || { echo "the answers differ"; exit 1; }
 
 # in turn, so that a busy machine disturbs both alike
 for turn in 1 2 3 4 5; do
-  target/bin/server_bench time | sed 's/^/proved /'
-  target/bench/server time | sed 's/^/twin /'
+  bin/server_bench time | sed 's/^/proved /'
+  bin/bench/server time | sed 's/^/twin /'
 done | awk '
   { for (i = 2; i < NF; i += 2) if (!(($1, $i) in best) || $(i + 1) < best[$1, $i]) best[$1, $i] = $(i + 1) }
   function requests(kind, count, words) {
@@ -41,10 +41,10 @@ def best(folder, count, rounds):
                 f.write(bytes(DEVICE_BYTES))
             with open(data, "rb") as given:
                 start = time.monotonic()
-                subprocess.run(["target/bin/house", path], stdin=given, stdout=subprocess.DEVNULL, check=True)
+                subprocess.run(["bin/house", path], stdin=given, stdout=subprocess.DEVNULL, check=True)
                 times.append(time.monotonic() - start)
         return count / min(times)
 
 print(f"house, device in memory {best('/dev/shm', 100_000, 5):9.0f} /s")
-print(f"house, device on disk   {best('target/bench', 2_000, 3):9.0f} /s")
+print(f"house, device on disk   {best('bin/bench', 2_000, 3):9.0f} /s")
 END

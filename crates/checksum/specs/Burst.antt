@@ -1,11 +1,11 @@
 -- Which damage the sum detects: every error burst of at most 32 bits, so every change of one byte.
 -- Assumes nothing. Laws stay shut, so that a caller's proof does not look into them.
 use Rattle.std.specs.Prelude.{◌≡◌, ℕ, ◌+◌, ◌*◌, ◌^◌, ◌<◌, List, [], ◌∷◌, length, ◌≢◌, bit_xor, slice_index, slice_set}
-use Rattle.std.specs.List.{AllByRecursion as All}
+use Rattle.std.specs.List.{AllByRecursion}
 use Rattle.checksum.specs.Crc.{crc}
 
 abbrev pub Bytes : List ℕ → Type 0
-Bytes bs = All (λ b. b < 256) bs
+Bytes bs = AllByRecursion (λ b. b < 256) bs
 
 -- a message's bits as one number, the first to be fed lowest
 unfoldable pub number : List ℕ → ℕ

@@ -1,7 +1,7 @@
 -- What an append left, from what its steps left.
 use Rattle.std.proofs.Common.{◌≡◌, ℕ, suc, ◌+◌, ◌^◌, ◌<◌, ◌≤◌, max, true, List, [], ◌∷◌, ◌++◌, length, set, IfOk, Some, Ok, Err, vec_items, Option, Result, sym, refl, ap, ◌∙◌, subst, ap₂, arith, length-append}
 use Rattle.std.proofs.lemmas.Bool.{lt-leb}
-use Rattle.std.specs.List.{AllByRecursion as All}
+use Rattle.std.specs.List.{AllByRecursion}
 use Rattle.lease.specs.declared.fault.Fault.{Fault}
 use Rattle.lease.specs.declared.fault.Fault.TheVariants.{BadSettings}
 use Rattle.lease.specs.declared.lease.Lease.{Lease}
@@ -72,7 +72,7 @@ module _ (before end : Journal) (x : Lease) (w : Written) where
           first = p;
           count = m ∙ sym (length-numbered (other c.side) 0 (suc c.highest + 0) (length (keeping now u n)) (keeping now u n ++ (x ∷ [])) ∙ k);
           early = lt-leb (2 ^ 63) (suc c.highest + (0 + length (keeping now u n))) (omega arith);
-          legible = subst (λ (i : ℕ). All Legible (numbered (other c.side) 0 i (length (keeping now u n)) (keeping now u n ++ (x ∷ [])))) q z.legible;
+          legible = subst (λ (i : ℕ). AllByRecursion Legible (numbered (other c.side) 0 i (length (keeping now u n)) (keeping now u n ++ (x ∷ [])))) q z.legible;
           inside = omega arith;
         }
 

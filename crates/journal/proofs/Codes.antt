@@ -6,7 +6,7 @@ use lib.Seq.{paste}
 use Rattle.std.proofs.ByRecursion.{All-append}
 use Rattle.std.proofs.lemmas.List.{take_at, take_all, drop_at}
 use Rattle.std.proofs.lemmas.Slice.{drop-append-drop}
-use Rattle.std.specs.List.{AllByRecursion as All, between}
+use Rattle.std.specs.List.{AllByRecursion, between}
 use Rattle.std.proofs.lemmas.Bool.{cond-true, cond-false, and_from, and_left, and_right, eq-eqb, ne_eqb}
 use Rattle.checksum.specs.Crc.{crc}
 use Rattle.checksum.specs.Burst.{Bytes, Has-32-bits}
@@ -43,7 +43,7 @@ valued-digits (suc w) n =
     ap₂ (λ (k v : ℕ). (n / 256 ^ w % 256) * 256 ^ k + v) (length_digits w n) (valued-digits w n)
     ∙ sym (ap (λ (m : ℕ). n % m) (pow-succ' 256 w) ∙ mod-mul n {m = 256} {c = 256 ^ w} (omega arith) (one-le-pow w 256 (omega arith)))
 
-digits-bytes : (w n : ℕ) → All (λ b. b < 256) (digits w n)
+digits-bytes : (w n : ℕ) → AllByRecursion (λ b. b < 256) (digits w n)
 digits-bytes zero n = tt
 digits-bytes (suc w) n = (mod-lt (n / 256 ^ w) (omega arith), digits-bytes w n)
 

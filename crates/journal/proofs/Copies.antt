@@ -1,7 +1,7 @@
 -- Leases copied one after the other into a row that was begun.
 use Rattle.std.proofs.Common.{◌≡◌, ℕ, suc, ◌+◌, max, List, [], ◌∷◌, ◌++◌, length, set, Some, None, Option, sym, refl, ap, ◌∙◌, subst, ap₂, arith, length-append}
 use Rattle.std.proofs.ByRecursion.{All-push}
-use Rattle.std.specs.List.{AllByRecursion as All}
+use Rattle.std.specs.List.{AllByRecursion}
 use Rattle.lease.specs.declared.lease.Lease.{Lease}
 use Rattle.journal.specs.Place.{Holds}
 use Rattle.journal.specs.Bytes.{encoded, decoded}
@@ -45,7 +45,7 @@ module _ (c : Cursor) (bs₀ : List (List ℕ)) (d₀ : Device) (above : c.first
         device = q ∙ ap₂ (λ (b : Device) (v : Cursor). put v.side v.count (Holds (next_record v x)) b) w.device w.cursor
             ∙ sym (ap (λ (ws : List Write). perform ws d₀) (push xs x) ∙ perform-push (numbered c.side 0 c.first c.base xs) (record { side = c.side; place = length xs; what = next_record (copied_to c (length xs)) x }) d₀);
         cursor = r ∙ ap went w.cursor ∙ went_on xs x;
-        legible = subst (All Legible) (sym (push xs x))
+        legible = subst (AllByRecursion Legible) (sym (push xs x))
             (All-push Legible (numbered c.side 0 c.first c.base xs) (record { side = c.side; place = length xs; what = next_record (copied_to c (length xs)) x }) w.legible
             (subst (λ (v : Cursor). decoded (encoded (next_record v x)) ≡ Some (next_record v x)) w.cursor g));
       }

@@ -2,7 +2,7 @@
 use Rattle.std.proofs.Common.{◌≡◌, ℕ, zero, suc, ◌+◌, ◌<◌, ◌≤◌, Bool, true, false, cond, List, [], ◌∷◌, ◌++◌, length, get_or, take, drop, set, Some, vec_items, Option, sym, refl, ap, ◌∙◌, subst, ap₂, inl, inr, add-one, arith, length-append, length-set, get_or-set_other, get_or-set_same}
 use Rattle.std.proofs.lemmas.List.{take_more, take_all, drop_more, take-append-drop, length-take-le, set-get_or}
 use Rattle.std.proofs.lemmas.Bool.{cases_lt}
-use Rattle.std.specs.List.{AllByRecursion as All}
+use Rattle.std.specs.List.{AllByRecursion}
 use Rattle.lease.specs.declared.lease.Lease.{Lease}
 use Rattle.journal.specs.declared.journal.Journal.{Journal}
 use Rattle.journal.specs.declared.record.Record.{Record}
@@ -55,7 +55,7 @@ module _ (s : Side) (b : ℕ) where
   length-stored k q [] bs = refl
   length-stored k q (x ∷ xs) bs = length-stored (suc k) (suc q) xs (set bs (index s k) (encoded (record { sequence = q; base = b; lease = x }))) ∙ length-set bs (index s k) (encoded (record { sequence = q; base = b; lease = x }))
 
-  device-stored : (k q : ℕ) (xs : List Lease) (bs : List (List ℕ)) → All Legible (numbered s k q b xs) → k + length xs ≤ 4096 → length bs ≡ 8192 → device_of (stored (numbered s k q b xs) bs) ≡ perform (numbered s k q b xs) (device_of bs)
+  device-stored : (k q : ℕ) (xs : List Lease) (bs : List (List ℕ)) → AllByRecursion Legible (numbered s k q b xs) → k + length xs ≤ 4096 → length bs ≡ 8192 → device_of (stored (numbered s k q b xs) bs) ≡ perform (numbered s k q b xs) (device_of bs)
   unfolding numbered stored perform
   device-stored k q [] bs h l n = refl
   device-stored k q (x ∷ xs) bs h l n =
@@ -91,7 +91,7 @@ module _ (s : Side) (b : ℕ) where
       ∙ stored_at x₀ (suc k) (suc q) xs (set bs (index s k) (encoded r)) j (omega arith) (omega arith) (length-set bs (index s k) (encoded r) ∙ n)
       ∙ ap (λ (i : ℕ). encoded (record { sequence = i; base = b; lease = get_or xs j x₀ })) {x = suc q + j} {y = q + suc j} (omega arith)
 
-  legible-at : (x₀ : Lease) (k q : ℕ) (xs : List Lease) (j : ℕ) → j < length xs → All Legible (numbered s k q b xs) →
+  legible-at : (x₀ : Lease) (k q : ℕ) (xs : List Lease) (j : ℕ) → j < length xs → AllByRecursion Legible (numbered s k q b xs) →
       decoded (encoded (record { sequence = q + j; base = b; lease = get_or xs j x₀ })) ≡ Some (record { sequence = q + j; base = b; lease = get_or xs j x₀ })
   unfolding numbered
   legible-at x₀ k q [] j l h = absurd (omega arith)
@@ -99,7 +99,7 @@ module _ (s : Side) (b : ℕ) where
   legible-at x₀ k q (x ∷ xs) (suc j) l h =
       subst (λ (i : ℕ). decoded (encoded (record { sequence = i; base = b; lease = get_or xs j x₀ })) ≡ Some (record { sequence = i; base = b; lease = get_or xs j x₀ })) {x = suc q + j} {y = q + suc j} (omega arith) (legible-at x₀ (suc k) (suc q) xs j (omega arith) h.1)
 
-  module _ (x₀ : Lease) (k q : ℕ) (xs : List Lease) (bs : List (List ℕ)) (fit : k + length xs ≤ 4096) (size : length bs ≡ 8192) (legible : All Legible (numbered s k q b xs)) where
+  module _ (x₀ : Lease) (k q : ℕ) (xs : List Lease) (bs : List (List ℕ)) (fit : k + length xs ≤ 4096) (size : length bs ≡ 8192) (legible : AllByRecursion Legible (numbered s k q b xs)) where
     abbrev memory : List (List ℕ)
     memory = stored (numbered s k q b xs) bs
 
@@ -116,11 +116,11 @@ module _ (s : Side) (b : ℕ) where
         ∙ ap (λ (i : ℕ). set (stored (numbered s k q b (take j xs)) bs) (index s (k + i)) (encoded (record { sequence = q + i; base = b; lease = y }))) n
         ∙ ap (λ (i : ℕ). set (stored (numbered s k q b (take j xs)) bs) i (encoded (record { sequence = q + j; base = b; lease = y }))) (index-add s k j))
 
-    front-legible : (j : ℕ) → All Legible (numbered s k q b (take j xs))
+    front-legible : (j : ℕ) → AllByRecursion Legible (numbered s k q b (take j xs))
     front-legible j = go (numbered s k q b (take j xs)) (numbered s (k + length (take j xs)) (q + length (take j xs)) b (drop j xs))
-        (subst (All Legible) (ap (numbered s k q b) (sym (take-append-drop j xs)) ∙ numbered-append k q (take j xs) (drop j xs)) legible)
+        (subst (AllByRecursion Legible) (ap (numbered s k q b) (sym (take-append-drop j xs)) ∙ numbered-append k q (take j xs) (drop j xs)) legible)
       where
-        go : (us vs : List Write) → All Legible (us ++ vs) → All Legible us
+        go : (us vs : List Write) → AllByRecursion Legible (us ++ vs) → AllByRecursion Legible us
         go [] vs h = tt
         go (u ∷ us) vs h = (h.0, go us vs h.1)
 

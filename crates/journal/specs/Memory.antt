@@ -5,7 +5,7 @@ use Rattle.lease.specs.declared.lease.Lease.{Lease}
 use Rattle.journal.specs.declared.journal.Journal.{Journal}
 use Rattle.journal.specs.declared.record.Record.{Record}
 use Rattle.journal.specs.declared.state.Found.TheVariants as found
-use Rattle.std.specs.List.{AllByRecursion as All}
+use Rattle.std.specs.List.{AllByRecursion}
 use Rattle.journal.specs.Place.{Holds}
 use Rattle.journal.specs.Bytes.{encoded, decoded}
 use Rattle.journal.specs.Append.{put, perform, Write, numbered, Plan, exhausted, writes, after as behind}
@@ -86,7 +86,7 @@ pub record Copied (c : Cursor) (bs₀ : List (List ℕ)) (d₀ : Device) (xs : L
   pub bytes : bs ≡ stored (numbered c.side 0 c.first c.base xs) bs₀
   pub device : d ≡ perform (numbered c.side 0 c.first c.base xs) d₀
   pub cursor : e ≡ copied_to c (length xs)
-  pub legible : All Legible (numbered c.side 0 c.first c.base xs)
+  pub legible : AllByRecursion Legible (numbered c.side 0 c.first c.base xs)
 
 -- what an append left, and which places it wrote: so many from the first on, in the order of the writes
 pub record Appended (before after : Journal) (p : Plan) (x : Lease) (w : Written) : Type 0 where
@@ -96,7 +96,7 @@ pub record Appended (before after : Journal) (p : Plan) (x : Lease) (w : Written
   pub choice : choice_of after ≡ Found p.side
   pub first : w.first ≡ index p.side p.place
   pub count : w.count ≡ length (writes p x)
-  pub legible : All Legible (writes p x)
+  pub legible : AllByRecursion Legible (writes p x)
   pub inside : p.place + length p.copied < 4096
   pub early : exhausted p ≡ false
 

@@ -3,7 +3,7 @@ use Rattle.std.proofs.Common.{◌≡◌, ℕ, zero, suc, ◌<◌, ◌≤◌, ltb
 use Rattle.std.proofs.ByRecursion.{All-take, All-drop}
 use Rattle.std.proofs.lemmas.List.{take-append-drop, length-take-le}
 use Rattle.std.proofs.lemmas.Bool.{cond_both, ltb-false}
-use Rattle.std.specs.List.{AllByRecursion as All}
+use Rattle.std.specs.List.{AllByRecursion}
 use Rattle.wire.specs.Stream.{framed}
 use Rattle.text.specs.declared.fault.Breach.TheVariants as breach
 use Rattle.text.specs.declared.form.Form.{Form}
@@ -15,7 +15,7 @@ use Rattle.text.specs.Laws.{Good}
 use Rattle.text.proofs.Splitting.{shrinks}
 
 abbrev pub Octets : List ℕ → Type 0
-Octets bs = All (λ b. b < 256) bs
+Octets bs = AllByRecursion (λ b. b < 256) bs
 
 -- how the bytes of a whole entry begin
 record Framed (who : ℕ) (bs : List ℕ) (e : Entry) (rest : List ℕ) : Type 0 where
@@ -73,7 +73,7 @@ first_back Script (who ∷ bs) e rest o h =
 
 pub record Back (f : Form) (bs : List ℕ) (es : List Entry) : Type 0 where
   pub same : bytes_of f es ≡ bs
-  pub good : All (λ e. Good f e) es
+  pub good : AllByRecursion (λ e. Good f e) es
 
 same_ok : (xs ys : List Entry) → ◌≡◌ {A = Found} (Ok xs) (Ok ys) → xs ≡ ys
 same_ok xs ys e = cc

@@ -1,7 +1,7 @@
 -- Bytes are read back from their hexadecimal digits.
 use Rattle.std.proofs.Common.{◌≡◌, ℕ, ◌+◌, ◌-◌, ◌*◌, ◌/◌, ◌%◌, ◌<◌, ◌≤◌, true, false, cond, ◌&&◌, ◌||◌, ltb, leb, List, [], ◌∷◌, length, refl, ◌∙◌, ap₂, ⊎_elim, arith}
 use Rattle.std.proofs.lemmas.Bool.{cond-true, cond-false, cases_lt, and_from, and_right, or_left, or_right, le-leb, lt-leb, le-ltb, lt-ltb}
-use Rattle.std.specs.List.{AllByRecursion as All}
+use Rattle.std.specs.List.{AllByRecursion}
 use Rattle.text.specs.Hex.{digit, ten, six, nibble, pair, pairs, written, meant}
 use Rattle.text.proofs.Spelling.{plainly}
 
@@ -33,7 +33,7 @@ pub record Hexed (m : List ℕ) : Type 0 where
   pub plain : plainly (written m) ≡ true
   pub twice : length (written m) ≡ 2 * length m
 
-pub hexed : (m : List ℕ) → All (λ b. b < 256) m → Hexed m
+pub hexed : (m : List ℕ) → AllByRecursion (λ b. b < 256) m → Hexed m
 hexed [] h = record { pairs = refl; meant = refl; plain = refl; twice = refl }
 hexed (b ∷ m) h =
     let l : b < 256 = h.0 in

@@ -3,7 +3,7 @@ use Rattle.std.proofs.Common.{◌≡◌, ℕ, zero, suc, ◌+◌, ◌<◌, ◌�
 use Rattle.std.proofs.ByRecursion.{All-from_get_or}
 use Rattle.std.proofs.lemmas.List.{append-nil, append_assoc}
 use Rattle.std.proofs.lemmas.Bool.{and_parts, eqb-true, eqb-false, ltb-true}
-use Rattle.std.specs.List.{AllByRecursion as All}
+use Rattle.std.specs.List.{AllByRecursion}
 use Rattle.wire.specs.declared.message.Message.{Message}
 use Rattle.wire.specs.declared.message.Message.TheVariants as m
 use Rattle.wire.specs.Message.{encoded}
@@ -141,7 +141,7 @@ entry-put f out r e (Say t) text tail h q l g go =
     (λ o rest whole d. line_reads f e.who (name t.kind) (said-args t) (verb.Say t.kind) (entry_bytes f e.who e.message) o rest whole g.party (fair-name t.kind) s.fairs (verb-back t.kind) (s.says f e.who) d)
     go
 
-told_back : (f : Form) (es : List Entry) → All (λ e. Good f e) es → Rest f (λ r. told f r es) (bytes_of f es)
+told_back : (f : Form) (es : List Entry) → AllByRecursion (λ e. Good f e) es → Rest f (λ r. told f r es) (bytes_of f es)
 told_back f [] g out r q h =
     let c : List ℕ = copies r.times (tick-bytes f r.who) in
     subst (λ (l : List ℕ). Reads f out l (out ++ (c ++ []))) (append-nil (run_text f r)) (run-reads f r out [] (out ++ (c ++ [])) q h (λ k. ap (λ (l : List ℕ). Ok l) (append_assoc out c [])))

@@ -2,7 +2,7 @@
 use Rattle.std.proofs.Common.{◌≡◌, ℕ, ◌+◌, ◌/◌, ◌^◌, ◌<◌, ◌≤◌, Bool, true, false, cond, eqb, ltb, List, [], ◌∷◌, ◌++◌, length, get_or, drop, Some, Ok, Err, decimal, Option, Result, sym, refl, ap, ◌∙◌, ap₂, add-zero, arith}
 use Rattle.std.proofs.lemmas.List.{get_or-drop, nil_from_length}
 use Rattle.std.proofs.lemmas.Bool.{cond-true, cond-false, eqb-true, ne_eqb, le-ltb}
-use Rattle.std.specs.List.{AllByRecursion as All}
+use Rattle.std.specs.List.{AllByRecursion}
 use Rattle.wire.specs.declared.message.Message.{Message}
 use Rattle.wire.specs.declared.message.Message.TheVariants as m
 use Rattle.wire.specs.Message.{encoded}
@@ -84,14 +84,14 @@ raw-at-place f who mes q ws x l e z =
       ap₂ (λ (n : ℕ) (bs : List ℕ). head f who ++ n ∷ bs) (ap (λ (w : List ℕ). length w / 2) e ∙ half) (ap meant e ∙ x.meant),
     )
 
-raw-by : (f : Form) (who : ℕ) (mes : List ℕ) (b : Bool) → eqb (length mes) 0 ≡ b → All (λ x. x < 256) mes → length mes ≤ 255 → Says f who verb.Bytes (cond b [] (written mes ∷ [])) (entry_bytes f who mes)
+raw-by : (f : Form) (who : ℕ) (mes : List ℕ) (b : Bool) → eqb (length mes) 0 ≡ b → AllByRecursion (λ x. x < 256) mes → length mes ≤ 255 → Says f who verb.Bytes (cond b [] (written mes ∷ [])) (entry_bytes f who mes)
 raw-by f who mes true h a l q ws e =
     let nil : mes ≡ [] = nil_from_length mes (eqb-true (length mes) 0 h) in
     raw-at-place f who mes q ws (hexed mes a) l (word_first q ws [] e ∙ ap written (sym nil)) (word_at q 1 ws [] e)
 raw-by f who mes false h a l q ws e =
     raw-at-place f who mes q ws (hexed mes a) l (word_first q ws (written mes ∷ []) e) (word_at q 1 ws (written mes ∷ []) e)
 
-pub raw-says : (f : Form) (who : ℕ) (mes : List ℕ) → All (λ x. x < 256) mes → length mes ≤ 255 → Says f who verb.Bytes (cond (eqb (length mes) 0) [] (written mes ∷ [])) (entry_bytes f who mes)
+pub raw-says : (f : Form) (who : ℕ) (mes : List ℕ) → AllByRecursion (λ x. x < 256) mes → length mes ≤ 255 → Says f who verb.Bytes (cond (eqb (length mes) 0) [] (written mes ∷ [])) (entry_bytes f who mes)
 raw-says f who mes a l = raw-by f who mes (eqb (length mes) 0) refl a l
 
 all_back : (p q r : Result ℕ Mistake) (a b c : ℕ) → p ≡ Ok a → q ≡ Ok b → r ≡ Ok c → all p q r ≡ Ok (figures a b c)

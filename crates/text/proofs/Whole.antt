@@ -1,7 +1,7 @@
 -- The entries of the bytes of entries are these.
 use Rattle.std.proofs.Common.{◌≡◌, ℕ, ◌<◌, ltb, List, [], ◌∷◌, ◌++◌, length, Ok, sym, refl, ap, ◌∙◌, arith}
 use Rattle.std.proofs.lemmas.Bool.{cond-false, le-ltb}
-use Rattle.std.specs.List.{AllByRecursion as All}
+use Rattle.std.specs.List.{AllByRecursion}
 use Rattle.wire.specs.Stream.{framed}
 use Rattle.text.specs.declared.fault.Breach.TheVariants as breach
 use Rattle.text.specs.declared.form.Form.{Form}
@@ -23,7 +23,7 @@ some : (f : Form) (who : ℕ) (m rest : List ℕ) → 0 < length (entry_bytes f 
 some Stream who m rest = omega arith
 some Script who m rest = omega arith
 
-pub entries-of : (f : Form) (es : List Entry) → All (λ e. Good f e) es → entries f (bytes_of f es) ≡ Ok es
+pub entries-of : (f : Form) (es : List Entry) → AllByRecursion (λ e. Good f e) es → entries f (bytes_of f es) ≡ Ok es
 entries-of f [] g = entries_none f
 entries-of f (e ∷ es) g =
     by_first f (bytes_of f (e ∷ es)) (whole e (bytes_of f es)) (some f e.who e.message (bytes_of f es)) (first_of f e (bytes_of f es) g.0) ∙ ap (λ (x : Found). behind e x) (entries-of f es g.1)

@@ -1,7 +1,7 @@
 -- Why nothing is lost: every script and stream has a text, and that is read as the very same bytes.
 -- Assumes that lists of bytes are such, as every value of the program is.
 use Rattle.std.specs.Prelude.{◌≡◌, ℕ, ◌<◌, ◌≤◌, List, length, Ok, slice_index}
-use Rattle.std.specs.List.{AllByRecursion as All}
+use Rattle.std.specs.List.{AllByRecursion}
 use Rattle.text.specs.declared.form.Form.{Form}
 use Rattle.text.specs.declared.form.Form.TheVariants.{Script, Stream}
 use Rattle.text.specs.Entries.{Entry, bytes_of}
@@ -20,7 +20,7 @@ Party Script who = who ≤ 64
 pub record Good (f : Form) (e : Entry) : Type 0 where
   pub party : Party f e.who
   pub few : length e.message ≤ 255
-  pub octets : All (λ b. b < 256) e.message
+  pub octets : AllByRecursion (λ b. b < 256) e.message
 
 -- what is written is read back
 abbrev pub RoundTrip : Type 0
@@ -30,5 +30,5 @@ RoundTrip = (f : Form) (bs text : List ℕ) → Bytes bs → write_text f bs ≡
 abbrev pub Written : Type 0
 Written =
     (f : Form) (es : List Entry)
-    → All (λ e. Good f e) es
+    → AllByRecursion (λ e. Good f e) es
     → (text : List ℕ) × (write_text f (bytes_of f es) ≡ Ok text) × (read_text f text ≡ Ok (bytes_of f es))
