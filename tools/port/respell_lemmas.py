@@ -71,7 +71,11 @@ def collect():
     for path in files("specs/**/*.antt"):
         known |= {n for n in defined(path) if "-" not in n and n[0].islower()}
     theirs = library()
-    known |= {n for n in theirs if "-" not in n and re.match(r"^[a-z]\w*$", n)}
+    for path in glob.glob(f"{KIT}/core/specs/**/*.antt", recursive=True):
+        for line in open(path, encoding="utf-8", errors="replace"):
+            m = re.match(r"^(?:(?:abbrev|unfoldable)\s+)?pub ([a-z]\w*)\s*:\s", line)
+            if m:
+                known.add(m.group(1))
     for path in files("specs/**/*.antt", "proofs/**/*.antt"):
         names |= set(defined(path))
         for line in open(path, encoding="utf-8"):
@@ -89,6 +93,9 @@ def collect():
             turned[n] = camel(n)
         elif "-" in n:
             turned[n] = lemma(n, known)
+            # a lemma that would have its function's name
+            if turned[n] != n and turned[n] in names | known | theirs:
+                turned[n] += "_lem"
         elif re.match(r"^[a-z]\w*[A-Z]", n):
             turned[n] = snake(n)
     return {n: m for n, m in turned.items() if n != m}
@@ -113,7 +120,8 @@ def main(argv):
         return 0
     clashes = []
     for path in files("specs/**/*.antt", "proofs/**/*.antt"):
-        tokens = set(TOKEN.findall(open(path, encoding="utf-8").read()))
+        lines = [x for x in open(path, encoding="utf-8") if not x.rstrip().endswith((".Goals as goal", ".Given as goal"))]
+        tokens = set(TOKEN.findall("".join(lines)))
         new = {}
         for t in tokens:
             m = names.get(t, t)

@@ -5,8 +5,8 @@ use lib.Bits.{bit_xor, xor_assoc, xor_comm, xor_self, xor_zero_r, xor_lt, xor_sh
 use Rattle.std.proofs.ByRecursion.{All-get_or, All-set}
 use Rattle.std.proofs.lemmas.Bool.{cond_both, cases_lt, eqb-false}
 use Rattle.checksum.specs.Crc.{polynomial, all_ones, bit, bits, step, run, crc}
-use Rattle.checksum.specs.Burst.{Bytes, number, Burst, Detects-bursts, Detects-changed-bytes, Has-32-bits}
-use Rattle.checksum.proofs.Crc.{bits-xor, bits-shifted, bits_above, xor-pairs, xor-back}
+use Rattle.checksum.specs.Burst.{Bytes, number, Burst, DetectsBursts, DetectsChangedBytes, Has32Bits}
+use Rattle.checksum.proofs.Crc.{bits_xor, bits_shifted, bits_above, xor_pairs, xor_back}
 
 -- ---- 32 bits stay 32 bits
 
@@ -28,14 +28,14 @@ run-below s (b ∷ bs) h t =
     let byte : b < 256 = t.0 in
     run-below (bits 8 (bit_xor s b)) bs (bits_below 8 (bit_xor s b) (xor_lt 32 s b h (omega arith))) t.1
 
-pub has-32-bits : Has-32-bits
-unfolding Has-32-bits crc
-has-32-bits bs t = xor_lt 32 (run all_ones bs) all_ones (run-below all_ones bs (omega arith) t) (omega arith)
+pub has_32_bits : Has32Bits
+unfolding Has32Bits crc
+has_32_bits bs t = xor_lt 32 (run all_ones bs) all_ones (run-below all_ones bs (omega arith) t) (omega arith)
 
 -- ---- what differs goes on to differ
 
 xor_nothing : (x y : ℕ) → bit_xor x y ≡ 0 → x ≡ y
-xor_nothing x y e = sym (xor-back x y) ∙ ap (λ (n : ℕ). bit_xor n y) e
+xor_nothing x y e = sym (xor_back x y) ∙ ap (λ (n : ℕ). bit_xor n y) e
 
 bit-nothing : (s : ℕ) → s < 2 ^ 32 → bit s ≡ 0 → s ≡ 0
 unfolding bit
@@ -49,10 +49,10 @@ unfolding bits
 bits-nothing zero s h e = e
 bits-nothing (suc k) s h e = bit-nothing s h (bits-nothing k (bit s) (bit_below s h) e)
 
-bits-add : (j k s : ℕ) → bits (j + k) s ≡ bits k (bits j s)
+bits_add : (j k s : ℕ) → bits (j + k) s ≡ bits k (bits j s)
 unfolding bits
-bits-add zero k s = ap (λ (n : ℕ). bits n s) (zero-add k)
-bits-add (suc j) k s = ap (λ (n : ℕ). bits n s) (suc-add j k) ∙ bits-add j k (bit s)
+bits_add zero k s = ap (λ (n : ℕ). bits n s) (zero-add k)
+bits_add (suc j) k s = ap (λ (n : ℕ). bits n s) (suc-add j k) ∙ bits_add j k (bit s)
 
 -- ---- a message is fed as one number
 
@@ -73,7 +73,7 @@ run_is s (b ∷ bs) t =
     sym (xor_assoc (rest * 2 ^ 8) s b) ∙ ap (λ (v : ℕ). bit_xor v b) (xor_comm (rest * 2 ^ 8) s) ∙ xor_assoc s (rest * 2 ^ 8) b ∙ ap (bit_xor s) (sym (number_is b bs t.0)) in
     run_is (step s b) bs t.1
     ∙ ap (bits n) (xor_comm (step s b) rest ∙ sym (bits_above 8 rest (bit_xor s b)) ∙ ap (bits 8) swap)
-    ∙ sym (bits-add 8 n (bit_xor s (number (b ∷ bs))))
+    ∙ sym (bits_add 8 n (bit_xor s (number (b ∷ bs))))
     ∙ ap (λ (v : ℕ). bits v (bit_xor s (number (b ∷ bs)))) (add_comm 8 n ∙ more_bytes (length bs))
 
 number-below : (bs : List ℕ) → Bytes bs → number bs < 2 ^ (length bs * 8)
@@ -87,23 +87,23 @@ number-below (b ∷ bs) t =
 
 -- ---- so a burst shows
 
-errors-fed : (xs ys : List ℕ) → Bytes xs → Bytes ys → length xs ≡ length ys → crc xs ≡ crc ys → bits (length xs * 8) (bit_xor (number xs) (number ys)) ≡ 0
+errors_fed : (xs ys : List ℕ) → Bytes xs → Bytes ys → length xs ≡ length ys → crc xs ≡ crc ys → bits (length xs * 8) (bit_xor (number xs) (number ys)) ≡ 0
 unfolding crc
-errors-fed xs ys tx ty long e =
+errors_fed xs ys tx ty long e =
     let n : ℕ = length xs * 8 in
     let x : ℕ = bit_xor all_ones (number xs) in
     let y : ℕ = bit_xor all_ones (number ys) in
     let same : run all_ones xs ≡ run all_ones ys =
-    sym (xor-back (run all_ones xs) all_ones) ∙ ap (λ (v : ℕ). bit_xor v all_ones) e ∙ xor-back (run all_ones ys) all_ones in
+    sym (xor_back (run all_ones xs) all_ones) ∙ ap (λ (v : ℕ). bit_xor v all_ones) e ∙ xor_back (run all_ones ys) all_ones in
     let fed : bits n x ≡ bits n y =
     sym (run_is all_ones xs tx) ∙ same ∙ run_is all_ones ys ty ∙ ap (λ (v : ℕ). bits (v * 8) y) (sym long) in
-    ap (bits n) (sym (xor-pairs all_ones (number xs) all_ones (number ys)))
-    ∙ bits-xor n x y
+    ap (bits n) (sym (xor_pairs all_ones (number xs) all_ones (number ys)))
+    ∙ bits_xor n x y
     ∙ ap (λ (v : ℕ). bit_xor v (bits n y)) fed
     ∙ xor_self (bits n y)
 
-burst-within : (xs ys : List ℕ) → Bytes xs → Bytes ys → (d : Burst xs ys) → d.from ≤ length xs * 8
-burst-within xs ys tx ty d =
+burst_within : (xs ys : List ℕ) → Bytes xs → Bytes ys → (d : Burst xs ys) → d.from ≤ length xs * 8
+burst_within xs ys tx ty d =
     let n : ℕ = length xs * 8 in
     let y-below : number ys < 2 ^ n = subst (λ (v : ℕ). number ys < 2 ^ (v * 8)) (sym d.long) (number-below ys ty) in
     let below : d.error * 2 ^ d.from < 2 ^ n = subst (λ (v : ℕ). v < 2 ^ n) d.where_they_differ (xor_lt n (number xs) (number ys) (number-below xs tx) y-below) in
@@ -111,22 +111,22 @@ burst-within xs ys tx ty d =
     ⊎_elim (λ (inside : d.from < n). le_of_lt inside)
     (λ (outside : n ≤ d.from). let more : 2 ^ n ≤ 2 ^ d.from = pow_mono outside in absurd (omega arith)) (cases_lt d.from n)
 
-pub detects-bursts : Detects-bursts
-unfolding Detects-bursts
-detects-bursts xs ys tx ty d e =
+pub detects_bursts : DetectsBursts
+unfolding DetectsBursts
+detects_bursts xs ys tx ty d e =
     let n : ℕ = length xs * 8 in
     let f : ℕ = d.from in
-    let rest : f + (n - f) ≡ n = add-sub_of_le (burst-within xs ys tx ty d) in
+    let rest : f + (n - f) ≡ n = add-sub_of_le (burst_within xs ys tx ty d) in
     let gone : bits (n - f) d.error ≡ 0 =
-    ap (bits (n - f)) (sym (bits-shifted f d.error))
-    ∙ sym (bits-add f (n - f) (d.error * 2 ^ f))
+    ap (bits (n - f)) (sym (bits_shifted f d.error))
+    ∙ sym (bits_add f (n - f) (d.error * 2 ^ f))
     ∙ ap₂ bits rest (sym d.where_they_differ)
-    ∙ errors-fed xs ys tx ty d.long e in
+    ∙ errors_fed xs ys tx ty d.long e in
     let none : d.error ≡ 0 = bits-nothing (n - f) d.error d.short gone in
     omega (arith, d.some)
 
-xor-shl : (x y k : ℕ) → bit_xor (x * 2 ^ k) (y * 2 ^ k) ≡ bit_xor x y * 2 ^ k
-xor-shl x y k =
+xor_shl : (x y k : ℕ) → bit_xor (x * 2 ^ k) (y * 2 ^ k) ≡ bit_xor x y * 2 ^ k
+xor_shl x y k =
     ap₂ bit_xor (sym (add-zero (x * 2 ^ k))) (sym (add-zero (y * 2 ^ k)))
     ∙ xor_block k x y 0 0 (pow_pos k) (pow_pos k)
     ∙ add-zero (bit_xor x y * 2 ^ k)
@@ -136,7 +136,7 @@ number-set [] i b t hb hi = absurd (omega arith)
 number-set (x ∷ bs) zero b t hb hi =
     let rest : ℕ = number bs * 2 ^ 8 in
     ap₂ bit_xor (number_is x bs t.0) (number_is b bs hb)
-    ∙ xor-pairs rest x rest b
+    ∙ xor_pairs rest x rest b
     ∙ ap (λ (v : ℕ). bit_xor v (bit_xor x b)) (xor_self rest)
     ∙ sym (mul-one (bit_xor x b))
 number-set (x ∷ bs) (suc i) b t hb hi =
@@ -144,22 +144,22 @@ number-set (x ∷ bs) (suc i) b t hb hi =
     let new : ℕ = number (set bs i b) in
     let error : ℕ = bit_xor (get_or bs i 0) b in
     ap₂ bit_xor (number_is x bs t.0) (number_is x (set bs i b) t.0)
-    ∙ xor-pairs (old * 2 ^ 8) x (new * 2 ^ 8) x
+    ∙ xor_pairs (old * 2 ^ 8) x (new * 2 ^ 8) x
     ∙ ap (bit_xor (bit_xor (old * 2 ^ 8) (new * 2 ^ 8))) (xor_self x)
     ∙ xor_zero_r (bit_xor (old * 2 ^ 8) (new * 2 ^ 8))
-    ∙ xor-shl old new 8
+    ∙ xor_shl old new 8
     ∙ ap (λ (v : ℕ). v * 2 ^ 8) (number-set bs i b t.1 hb (le_of_suc-le-suc hi))
     ∙ mul_assoc error (2 ^ (i * 8)) (2 ^ 8)
     ∙ ap (λ (v : ℕ). error * v) (sym (pow-add 2 (i * 8) 8) ∙ ap (λ (v : ℕ). 2 ^ v) (more_bytes i))
 
-above-nothing : (x y : ℕ) → (x ≡ y → ⊥) → 0 < bit_xor x y
-above-nothing x y ne =
+above_nothing : (x y : ℕ) → (x ≡ y → ⊥) → 0 < bit_xor x y
+above_nothing x y ne =
     ⊎_elim (λ (some : 0 < bit_xor x y). some) (λ (none : bit_xor x y ≤ 0). absurd (ne (xor_nothing x y (omega arith)))) (cases_lt 0 (bit_xor x y))
 
-pub detects-changed-bytes : Detects-changed-bytes
-unfolding Detects-changed-bytes Detects-bursts
-detects-changed-bytes bs i b t hb hi ne e =
+pub detects_changed_bytes : DetectsChangedBytes
+unfolding DetectsChangedBytes DetectsBursts
+detects_changed_bytes bs i b t hb hi ne e =
     let was : get_or bs i 0 < 256 = All-get_or (λ x. x < 256) bs i 0 hi t in
     let small : bit_xor (get_or bs i 0) b < 256 = xor_lt 8 (get_or bs i 0) b was hb in
-    let burst : Burst bs (set bs i b) = record { long = sym (length-set bs i b); from = i * 8; error = bit_xor (get_or bs i 0) b; some = above-nothing (get_or bs i 0) b ne; short = omega arith; where_they_differ = number-set bs i b t hb hi } in
-    detects-bursts bs (set bs i b) t (All-set (λ x. x < 256) bs i b hb t) burst e
+    let burst : Burst bs (set bs i b) = record { long = sym (length-set bs i b); from = i * 8; error = bit_xor (get_or bs i 0) b; some = above_nothing (get_or bs i 0) b ne; short = omega arith; where_they_differ = number-set bs i b t hb hi } in
+    detects_bursts bs (set bs i b) t (All-set (λ x. x < 256) bs i b hb t) burst e

@@ -21,11 +21,11 @@ pub record Burst (xs ys : List ℕ) : Type 0 where
   pub short : error < 2 ^ 32
   pub where_they_differ : bit_xor (number xs) (number ys) ≡ error * 2 ^ from
 
-unfoldable pub Detects-bursts : Type 0
-Detects-bursts = (xs ys : List ℕ) → Bytes xs → Bytes ys → Burst xs ys → crc xs ≢ crc ys
+unfoldable pub DetectsBursts : Type 0
+DetectsBursts = (xs ys : List ℕ) → Bytes xs → Bytes ys → Burst xs ys → crc xs ≢ crc ys
 
-unfoldable pub Detects-changed-bytes : Type 0
-Detects-changed-bytes = (bs : List ℕ) (i b : ℕ) → Bytes bs → b < 256 → i < length bs → (slice_index bs i ≢ b) → crc bs ≢ crc (slice_set bs i b)
+unfoldable pub DetectsChangedBytes : Type 0
+DetectsChangedBytes = (bs : List ℕ) (i b : ℕ) → Bytes bs → b < 256 → i < length bs → (slice_index bs i ≢ b) → crc bs ≢ crc (slice_set bs i b)
 
-unfoldable pub Has-32-bits : Type 0
-Has-32-bits = (bs : List ℕ) → Bytes bs → crc bs < 2 ^ 32
+unfoldable pub Has32Bits : Type 0
+Has32Bits = (bs : List ℕ) → Bytes bs → crc bs < 2 ^ 32

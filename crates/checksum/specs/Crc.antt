@@ -32,9 +32,9 @@ unfoldable pub continued : ℕ → List ℕ → ℕ
 continued sum bs = bit_xor (run (bit_xor sum all_ones) bs) all_ones
 
 -- the published check value
-abbrev pub Check-value : Type 0
-Check-value = crc (codes "123456789") ≡ 0xE3069283
+abbrev pub CheckValue : Type 0
+CheckValue = crc (codes "123456789") ≡ 0xE3069283
 
 -- so a record of zeros, with 0 where its sum stands, does not fit
-abbrev pub Zeros-do-not-fit : Type 0
-Zeros-do-not-fit = crc (replicate 24 0) ≡ 0 → ⊥
+abbrev pub ZerosDoNotFit : Type 0
+ZerosDoNotFit = crc (replicate 24 0) ≡ 0 → ⊥

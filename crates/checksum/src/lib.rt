@@ -3,8 +3,8 @@
 // CRC-32C, the sum that tells a whole record from a torn one.
 ghost use Rattle.std.specs.Prelude.{◌≡◌, ℕ, List, ◌++◌};
 ghost use Rattle.checksum.specs.Crc.{crc, step as stepped, continued};
-ghost use Rattle.checksum.specs.Crc.{Check-value, Zeros-do-not-fit};
-ghost use Rattle.checksum.specs.Burst.{Has-32-bits, Detects-bursts, Detects-changed-bytes};
+ghost use Rattle.checksum.specs.Crc.{CheckValue, ZerosDoNotFit};
+ghost use Rattle.checksum.specs.Burst.{Has32Bits, DetectsBursts, DetectsChangedBytes};
 
 mod table;
 
@@ -34,17 +34,17 @@ pub fn crc32c_append(sum: u32, bytes: &[u8]) -> u32
 // The sum of a whole message.
 pub fn crc32c(bytes: &[u8]) -> u32
     ensures value { result ≡ crc bytes.now }
-    ensures word { Has-32-bits }
-    ensures bursts { Detects-bursts }
-    ensures changes { Detects-changed-bytes }
+    ensures word { Has32Bits }
+    ensures bursts { DetectsBursts }
+    ensures changes { DetectsChangedBytes }
 {
     crc32c_append(0, bytes)
 }
 
 // The sum of "123456789", by which an implementation is told to be CRC-32C.
 pub fn check_value() -> u32
-    ensures published { Check-value }
-    ensures zeros { Zeros-do-not-fit }
+    ensures published { CheckValue }
+    ensures zeros { ZerosDoNotFit }
     ensures value { result ≡ 0xE3069283 }
 {
     crc32c(b"123456789")

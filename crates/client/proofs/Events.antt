@@ -63,15 +63,15 @@ module _ (T : retry.Client → Event → Bool) (es : List Event) where
   after-request no-asks (r ∷ rs) hs k = (no-asks _, k)
 
   module _ (s : State) where
-    no-tick : (s.holder.up ≡ true → T (retry.client es) Ticks ≡ false) → (r : Result Turn lease.Fault) → Never T es (heard_by Tick s r)
+    no_tick : (s.holder.up ≡ true → T (retry.client es) Ticks ≡ false) → (r : Result Turn lease.Fault) → Never T es (heard_by Tick s r)
     unfolding Never
-    no-tick f (Ok t) = cond_both s.holder.up (Ticks ∷ []) [] (λ l. Never T es l) (λ up. (f up, tt)) (λ down. tt)
-    no-tick f (Err e) = tt
+    no_tick f (Ok t) = cond_both s.holder.up (Ticks ∷ []) [] (λ l. Never T es l) (λ up. (f up, tt)) (λ down. tt)
+    no_tick f (Err e) = tt
 
-    no-take : (s.holder.up ≡ true → (a t : ℕ) → T (retry.client es) (Takes a t) ≡ false) → (g : lent.Grant) (r : Result Turn lease.Fault) → Never T es (heard_by (Grant g) s r)
+    no_take : (s.holder.up ≡ true → (a t : ℕ) → T (retry.client es) (Takes a t) ≡ false) → (g : lent.Grant) (r : Result Turn lease.Fault) → Never T es (heard_by (Grant g) s r)
     unfolding Never
-    no-take f g (Ok t) = cond_both s.holder.up (Takes _ _ ∷ []) [] (λ l. Never T es l) (λ up. (f up _ _, tt)) (λ down. tt)
-    no-take f g (Err e) = tt
+    no_take f g (Ok t) = cond_both s.holder.up (Takes _ _ ∷ []) [] (λ l. Never T es l) (λ up. (f up _ _, tt)) (λ down. tt)
+    no_take f g (Err e) = tt
 
     no_start : ((clock : ℕ) → T (retry.client es) (Starts clock) ≡ false) → (clock : ℕ) (r : Result Turn lease.Fault) → Never T es (heard_by (Restart clock) s r)
     unfolding Never
@@ -106,61 +106,61 @@ module _ (T : retry.Client → Event → Bool) (es : List Event) where
 
 module _ (c : Client) (es : List Event) where
   -- a restart that is refused is no start
-  restart-refused : (clock : ℕ) → ltb clock (2 ^ 63) ≡ false → Never pacing.starts es (heard_by (Restart clock) c.state (does (Restart clock) c.state))
+  restart_refused : (clock : ℕ) → ltb clock (2 ^ 63) ≡ false → Never pacing.starts es (heard_by (Restart clock) c.state (does (Restart clock) c.state))
   unfolding Never
-  restart-refused clock e =
+  restart_refused clock e =
       cond_both (leb (2 ^ 63) clock) _ _ (λ r. Never pacing.starts es (heard_by (Restart clock) c.state r)) (λ f. tt)
       (λ f. absurd (let l : 2 ^ 63 ≤ clock = ltb-false clock (2 ^ 63) e in omega (arith, leb-false (2 ^ 63) clock f)))
 
-  pub never-starts : (a : Answer) → is_start a ≡ false → Never pacing.starts es (first_by c a)
-  never-starts a e =
+  pub never_starts : (a : Answer) → is_start a ≡ false → Never pacing.starts es (first_by c a)
+  never_starts a e =
       by_kind pacing.starts es c (λ a. is_start a ≡ false)
-      (λ q. no-tick pacing.starts es c.state (λ up. refl) (does Tick c.state))
-      (λ g q. no-take pacing.starts es c.state (λ up a t. refl) g (does (Grant g) c.state))
-      (λ clock q. restart-refused clock q) a e
+      (λ q. no_tick pacing.starts es c.state (λ up. refl) (does Tick c.state))
+      (λ g q. no_take pacing.starts es c.state (λ up a t. refl) g (does (Grant g) c.state))
+      (λ clock q. restart_refused clock q) a e
 
-  pub never-asks : (a : Answer) → Never pacing.asks es (first_by c a)
-  never-asks a =
+  pub never_asks : (a : Answer) → Never pacing.asks es (first_by c a)
+  never_asks a =
       by_kind pacing.asks es c (λ a. Unit {0})
-      (λ q. no-tick pacing.asks es c.state (λ up. refl) (does Tick c.state))
-      (λ g q. no-take pacing.asks es c.state (λ up a t. refl) g (does (Grant g) c.state))
+      (λ q. no_tick pacing.asks es c.state (λ up. refl) (does Tick c.state))
+      (λ g q. no_take pacing.asks es c.state (λ up a t. refl) g (does (Grant g) c.state))
       (λ clock q. no_start pacing.asks es c.state (λ clock. refl) clock (does (Restart clock) c.state)) a tt
 
-  pub never-tarries : Tied c.state es → is_due c.state.schedule c.state.holder.clock ≡ false → (a : Answer) → Never pacing.tarries es (first_by c a)
-  never-tarries tie e a =
+  pub never_tarries : Tied c.state es → is_due c.state.schedule c.state.holder.clock ≡ false → (a : Answer) → Never pacing.tarries es (first_by c a)
+  never_tarries tie e a =
       by_kind pacing.tarries es c (λ a. Unit {0})
-      (λ q. no-tick pacing.tarries es c.state (λ up. ap (λ (x : retry.Client). is_due x.schedule x.clock) (sym (tie up)) ∙ e) (does Tick c.state))
-      (λ g q. no-take pacing.tarries es c.state (λ up a t. refl) g (does (Grant g) c.state))
+      (λ q. no_tick pacing.tarries es c.state (λ up. ap (λ (x : retry.Client). is_due x.schedule x.clock) (sym (tie up)) ∙ e) (does Tick c.state))
+      (λ g q. no_take pacing.tarries es c.state (λ up a t. refl) g (does (Grant g) c.state))
       (λ clock q. no_start pacing.tarries es c.state (λ clock. refl) clock (does (Restart clock) c.state)) a tt
 
   -- a tick at which an address is over puts out the loss
-  tick-says : IfOk (ticks c.state) (λ t. c.state.holder.up ≡ true → over (c.state.holder.clock + 1) (option_map until (in_use c.state)) ≡ true → any uses_none t.says ≡ true)
+  tick_says : IfOk (ticks c.state) (λ t. c.state.holder.up ≡ true → over (c.state.holder.clock + 1) (option_map until (in_use c.state)) ≡ true → any uses_none t.says ≡ true)
   unfolding any
-  tick-says =
+  tick_says =
       let P : Turn → Type 0 = λ t. c.state.holder.up ≡ true → over (c.state.holder.clock + 1) (option_map until (in_use c.state)) ≡ true → any uses_none t.says ≡ true in
       cond_both c.state.holder.up _ _ (λ (r : Result Turn lease.Fault). IfOk r P)
       (λ up. cond_both (leb (2 ^ 63) (c.state.holder.clock + 1)) _ _ (λ (r : Result Turn lease.Fault). IfOk r P) (λ e. tt)
       (λ e. cond_both (over (c.state.holder.clock + 1) (option_map until (in_use c.state))) _ _ P (λ f p q. refl) (λ f p q. absurd (both_ways _ f q))))
       (λ down p. absurd (both_ways _ down p))
 
-  tick-no-loss : Tied c.state es → (r : Result Turn lease.Fault) →
+  tick_no_loss : Tied c.state es → (r : Result Turn lease.Fault) →
       IfOk r (λ t. c.state.holder.up ≡ true → over (c.state.holder.clock + 1) (option_map until (in_use c.state)) ≡ true → any uses_none t.says ≡ true) →
       any uses_none (goes_on c (queued Tick c.nonces) r).says ≡ false → Never pacing.loses es (heard_by Tick c.state r)
   unfolding Never
-  tick-no-loss tie (Ok t) h e =
-      no-tick pacing.loses es c.state
+  tick_no_loss tie (Ok t) h e =
+      no_tick pacing.loses es c.state
       (λ up. ap (λ (x : retry.Client). over (x.clock + 1) x.uses) (sym (tie up))
       ∙ ⊎_elim
       (λ f. absurd (both_ways _ (asks-any uses_none t t.state.settings t.state.own (queued Tick c.nonces) e) (h up f)))
       (λ f. f) (cases_Bool (over (c.state.holder.clock + 1) (option_map until (in_use c.state)))))
       (Ok t)
-  tick-no-loss tie (Err f) h e = tt
+  tick_no_loss tie (Err f) h e = tt
 
-  pub never-loses : Tied c.state es → (a : Answer) → (is_tick a && any uses_none (answers c a).says) ≡ false → Never pacing.loses es (first_by c a)
-  never-loses tie a e =
+  pub never_loses : Tied c.state es → (a : Answer) → (is_tick a && any uses_none (answers c a).says) ≡ false → Never pacing.loses es (first_by c a)
+  never_loses tie a e =
       by_kind pacing.loses es c (λ a. (is_tick a && any uses_none (answers c a).says) ≡ false)
-      (λ q. tick-no-loss tie (does Tick c.state) tick-says q)
-      (λ g q. no-take pacing.loses es c.state (λ up a t. refl) g (does (Grant g) c.state))
+      (λ q. tick_no_loss tie (does Tick c.state) tick_says q)
+      (λ g q. no_take pacing.loses es c.state (λ up a t. refl) g (does (Grant g) c.state))
       (λ clock q. no_start pacing.loses es c.state (λ clock. refl) clock (does (Restart clock) c.state)) a e
 
 -- a term is at least a minute
@@ -189,92 +189,92 @@ module _ (s : State) where
   grant-says g = cond_both s.holder.up _ _ (λ (r : Result Turn lease.Fault). IfOk r (λ t. Granted s t)) (λ up. granted-says g up s.own s.settings refl) (λ down. inl (down, refl))
 
   -- no other message puts out an address
-  stops-no-use : (o : Option Use) → any uses (stops o) ≡ false
+  stops_no_use : (o : Option Use) → any uses (stops o) ≡ false
   unfolding any
-  stops-no-use None = refl
-  stops-no-use (Some u) = refl
+  stops_no_use None = refl
+  stops_no_use (Some u) = refl
 
   abbrev Useless : Result Turn lease.Fault → Type 0
   Useless r = IfOk r (λ t. any uses t.says ≡ false)
 
-  tick-no-use : Useless (ticks s)
+  tick_no_use : Useless (ticks s)
   unfolding any
-  tick-no-use =
+  tick_no_use =
       cond_both s.holder.up _ _ (λ r. Useless r)
       (λ up. cond_both (leb (2 ^ 63) (s.holder.clock + 1)) _ _ (λ r. Useless r) (λ e. tt)
       (λ e. cond_both (over (s.holder.clock + 1) (option_map until (in_use s))) _ _ (λ (t : Turn). any uses t.says ≡ false) (λ f. refl) (λ f. refl)))
       (λ down. refl)
 
-  crash-no-use : any uses (crashes s).says ≡ false
+  crash_no_use : any uses (crashes s).says ≡ false
   unfolding any
-  crash-no-use = cond_both s.holder.up _ _ (λ (t : Turn). any uses t.says ≡ false) (λ up. stops-no-use (in_use s)) (λ down. refl)
+  crash_no_use = cond_both s.holder.up _ _ (λ (t : Turn). any uses t.says ≡ false) (λ up. stops_no_use (in_use s)) (λ down. refl)
 
-  restart-no-use : (clock : ℕ) → Useless (restarts clock s)
-  restart-no-use clock = cond_both (leb (2 ^ 63) clock) _ _ (λ r. Useless r) (λ e. tt) (λ e. stops-no-use (in_use s))
+  restart_no_use : (clock : ℕ) → Useless (restarts clock s)
+  restart_no_use clock = cond_both (leb (2 ^ 63) clock) _ _ (λ r. Useless r) (λ e. tt) (λ e. stops_no_use (in_use s))
 
-  learn-no-use : (n t k : ℕ) → Useless (learns n t k s)
+  learn_no_use : (n t k : ℕ) → Useless (learns n t k s)
   unfolding any
-  learn-no-use n t k = cond_both (valid n t k) _ _ (λ r. Useless r) (λ e. refl) (λ e. tt)
+  learn_no_use n t k = cond_both (valid n t k) _ _ (λ r. Useless r) (λ e. refl) (λ e. tt)
 
-  name-no-use : (o : Option ℕ) (n : ℕ) → Useless (named o n s)
+  name_no_use : (o : Option ℕ) (n : ℕ) → Useless (named o n s)
   unfolding any
-  name-no-use None n = refl
-  name-no-use (Some m) n = tt
+  name_no_use None n = refl
+  name_no_use (Some m) n = tt
 
-asks-no-use : (t : Turn) (k : Option model.Settings) (own : Option ℕ) (ns : List ℕ) → any uses t.says ≡ false → any uses (asks_by k own t ns).says ≡ false
+asks_no_use : (t : Turn) (k : Option model.Settings) (own : Option ℕ) (ns : List ℕ) → any uses t.says ≡ false → any uses (asks_by k own t ns).says ≡ false
 unfolding any
-asks-no-use t None own ns e = e
-asks-no-use t (Some k) None ns e = e
-asks-no-use t (Some k) (Some own) [] e = e
-asks-no-use t (Some k) (Some own) (n ∷ ns) e =
+asks_no_use t None own ns e = e
+asks_no_use t (Some k) None ns e = e
+asks_no_use t (Some k) (Some own) [] e = e
+asks_no_use t (Some k) (Some own) (n ∷ ns) e =
     cond_both (ready t.state) (whole.sends k own n t ns) (whole.keeps t (n ∷ ns)) (λ (p : Step). any uses p.says ≡ false) (λ r. none_more t.says _ e refl) (λ r. e)
 
 module _ (c : Client) where
-  going-no-use : (ns : List ℕ) (r : Result Turn lease.Fault) → Useless c.state r → any uses (goes_on c ns r).says ≡ false
+  going_no_use : (ns : List ℕ) (r : Result Turn lease.Fault) → Useless c.state r → any uses (goes_on c ns r).says ≡ false
   unfolding any
-  going-no-use ns (Ok t) h = asks-no-use t t.state.settings t.state.own ns h
-  going-no-use ns (Err f) h = refl
+  going_no_use ns (Ok t) h = asks_no_use t t.state.settings t.state.own ns h
+  going_no_use ns (Err f) h = refl
 
   -- the step is a grant taken, and nothing else before a request
   abbrev IsTaken : List Event → Type 0
   IsTaken hs = (a : ℕ) × (t : ℕ) × (hs ≡ Takes a t ∷ []) × (60 ≤ t)
 
-  taken-by : Long c.state.settings → (g : lent.Grant) (r : Result Turn lease.Fault) → IfOk r (λ t. Granted c.state t) → any uses (goes_on c (queued (Grant g) c.nonces) r).says ≡ true →
+  taken_by : Long c.state.settings → (g : lent.Grant) (r : Result Turn lease.Fault) → IfOk r (λ t. Granted c.state t) → any uses (goes_on c (queued (Grant g) c.nonces) r).says ≡ true →
       IsTaken (heard_by (Grant g) c.state r)
   unfolding any
-  taken-by long g (Ok t) (inl h) e = absurd (both_ways _ (asks-no-use t t.state.settings t.state.own (queued (Grant g) c.nonces) h.1) e)
-  taken-by long g (Ok t) (inr h) e =
+  taken_by long g (Ok t) (inl h) e = absurd (both_ways _ (asks_no_use t t.state.settings t.state.own (queued (Grant g) c.nonces) h.1) e)
+  taken_by long g (Ok t) (inr h) e =
       (asked_at c.state.holder.holding.waits, term_of c.state.settings, cond-true c.state.holder.up (Takes _ _ ∷ []) [] h.0, h.2 long)
-  taken-by long g (Err f) h e = absurd (both_ways false refl e)
+  taken_by long g (Err f) h e = absurd (both_ways false refl e)
 
   pub is-taken : Long c.state.settings → (a : Answer) → any uses (answers c a).says ≡ true → IsTaken (first_by c a)
   unfolding any
   is-taken long (Ok (Request r)) e = absurd (both_ways false refl e)
-  is-taken long (Ok (Grant g)) e = taken-by long g (does (Grant g) c.state) (grant-says c.state g) e
-  is-taken long (Ok (Settings n t k)) e = absurd (both_ways _ (going-no-use (queued (Settings n t k) c.nonces) (does (Settings n t k) c.state) (learn-no-use c.state n t k)) e)
-  is-taken long (Ok Tick) e = absurd (both_ways _ (going-no-use (queued Tick c.nonces) (does Tick c.state) (tick-no-use c.state)) e)
-  is-taken long (Ok Crash) e = absurd (both_ways _ (going-no-use (queued Crash c.nonces) (does Crash c.state) (crash-no-use c.state)) e)
-  is-taken long (Ok (Restart clock)) e = absurd (both_ways _ (going-no-use (queued (Restart clock) c.nonces) (does (Restart clock) c.state) (restart-no-use c.state clock)) e)
-  is-taken long (Ok (OwnNumber n)) e = absurd (both_ways _ (going-no-use (queued (OwnNumber n) c.nonces) (does (OwnNumber n) c.state) (name-no-use c.state c.state.own n)) e)
-  is-taken long (Ok (Nonce n)) e = absurd (both_ways _ (going-no-use (queued (Nonce n) c.nonces) (does (Nonce n) c.state) refl) e)
+  is-taken long (Ok (Grant g)) e = taken_by long g (does (Grant g) c.state) (grant-says c.state g) e
+  is-taken long (Ok (Settings n t k)) e = absurd (both_ways _ (going_no_use (queued (Settings n t k) c.nonces) (does (Settings n t k) c.state) (learn_no_use c.state n t k)) e)
+  is-taken long (Ok Tick) e = absurd (both_ways _ (going_no_use (queued Tick c.nonces) (does Tick c.state) (tick_no_use c.state)) e)
+  is-taken long (Ok Crash) e = absurd (both_ways _ (going_no_use (queued Crash c.nonces) (does Crash c.state) (crash_no_use c.state)) e)
+  is-taken long (Ok (Restart clock)) e = absurd (both_ways _ (going_no_use (queued (Restart clock) c.nonces) (does (Restart clock) c.state) (restart_no_use c.state clock)) e)
+  is-taken long (Ok (OwnNumber n)) e = absurd (both_ways _ (going_no_use (queued (OwnNumber n) c.nonces) (does (OwnNumber n) c.state) (name_no_use c.state c.state.own n)) e)
+  is-taken long (Ok (Nonce n)) e = absurd (both_ways _ (going_no_use (queued (Nonce n) c.nonces) (does (Nonce n) c.state) refl) e)
   is-taken long (Ok (InUse a u)) e = absurd (both_ways false refl e)
   is-taken long (Ok NoAddress) e = absurd (both_ways false refl e)
   is-taken long (Ok (Fault f)) e = absurd (both_ways false refl e)
   is-taken long (Err f) e = absurd (both_ways false refl e)
 
 module _ (c : Client) (es : List Event) where
-  no-use : (g : lent.Grant) (r : Result Turn lease.Fault) → IfOk r (λ t. Granted c.state t) →
+  no_use : (g : lent.Grant) (r : Result Turn lease.Fault) → IfOk r (λ t. Granted c.state t) →
       any uses (goes_on c (queued (Grant g) c.nonces) r).says ≡ false → Never pacing.takes es (heard_by (Grant g) c.state r)
   unfolding Never
-  no-use g (Ok t) h e =
+  no_use g (Ok t) h e =
       cond_both c.state.holder.up (Takes _ _ ∷ []) [] (λ l. Never pacing.takes es l)
       (λ up. ⊎_elim (λ k. absurd (both_ways _ k.0 up))
       (λ k. absurd (both_ways _ (asks-any uses t t.state.settings t.state.own (queued (Grant g) c.nonces) e) k.1)) h) (λ down. tt)
-  no-use g (Err f) h e = tt
+  no_use g (Err f) h e = tt
 
-  pub never-takes : (a : Answer) → any uses (answers c a).says ≡ false → Never pacing.takes es (first_by c a)
-  never-takes a e =
+  pub never_takes : (a : Answer) → any uses (answers c a).says ≡ false → Never pacing.takes es (first_by c a)
+  never_takes a e =
       by_kind pacing.takes es c (λ a. any uses (answers c a).says ≡ false)
-      (λ q. no-tick pacing.takes es c.state (λ up. refl) (does Tick c.state))
-      (λ g q. no-use g (does (Grant g) c.state) (grant-says c.state g) q)
+      (λ q. no_tick pacing.takes es c.state (λ up. refl) (does Tick c.state))
+      (λ g q. no_use g (does (Grant g) c.state) (grant-says c.state g) q)
       (λ clock q. no_start pacing.takes es c.state (λ clock. refl) clock (does (Restart clock) c.state)) a e

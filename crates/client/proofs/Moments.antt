@@ -35,8 +35,8 @@ module _ (s : State) where
   abbrev Longer : Result Turn lease.Fault → Type 0
   Longer r = IfOk r (λ t. Long s.settings → Long t.state.settings)
 
-  tick-long : Longer (ticks s)
-  tick-long =
+  tick_long : Longer (ticks s)
+  tick_long =
       cond_both s.holder.up _ _ (λ r. Longer r)
       (λ up. cond_both (leb (2 ^ 63) (s.holder.clock + 1)) _ _ (λ r. Longer r) (λ e. tt)
       (λ e. cond_both (over (s.holder.clock + 1) (option_map until (in_use s))) _ _ (λ (t : Turn). Long s.settings → Long t.state.settings) (λ f l. l) (λ f l. l)))
@@ -59,7 +59,7 @@ module _ (s : State) where
   does-long (Request r) = tt
   does-long (Grant g) = cond_both s.holder.up _ _ (λ r. Longer r) (λ up. granted-long g s.own s.settings) (λ down l. l)
   does-long (Settings n t k) = cond_both (valid n t k) _ _ (λ r. Longer r) (λ e l. valid-long n t k e) (λ e. tt)
-  does-long Tick = tick-long
+  does-long Tick = tick_long
   does-long Crash = cond_both s.holder.up _ _ (λ (t : Turn). Long s.settings → Long t.state.settings) (λ up l. l) (λ down l. l)
   does-long (Restart clock) = cond_both (leb (2 ^ 63) clock) _ _ (λ r. Longer r) (λ e. tt) (λ e l. l)
   does-long (OwnNumber n) = named-long s.own n
@@ -74,12 +74,12 @@ asks-long t (Some k) None ns l = l
 asks-long t (Some k) (Some own) [] l = l
 asks-long t (Some k) (Some own) (n ∷ ns) l = cond_both (ready t.state) _ _ (λ (p : Step). Long p.client.state.settings) (λ e. l) (λ e. l)
 
-going-long : (c : Client) (ns : List ℕ) (r : Result Turn lease.Fault) → Longer c.state r → Long c.state.settings → Long (goes_on c ns r).client.state.settings
-going-long c ns (Ok t) k l = asks-long t t.state.settings t.state.own ns (k l)
-going-long c ns (Err f) k l = l
+going_long : (c : Client) (ns : List ℕ) (r : Result Turn lease.Fault) → Longer c.state r → Long c.state.settings → Long (goes_on c ns r).client.state.settings
+going_long c ns (Ok t) k l = asks-long t t.state.settings t.state.own ns (k l)
+going_long c ns (Err f) k l = l
 
 answers-long : (c : Client) (a : Answer) → Long c.state.settings → Long (answers c a).client.state.settings
-answers-long c (Ok m) l = going-long c (queued m c.nonces) (does m c.state) (does-long c.state m) l
+answers-long c (Ok m) l = going_long c (queued m c.nonces) (does m c.state) (does-long c.state m) l
 answers-long c (Err f) l = l
 
 pub long : (bs : Run) → Long (client bs).state.settings
@@ -95,8 +95,8 @@ requested-later : (s : Schedule) (now : ℕ) (o : Option ℕ) → now < (request
 requested-later s now None = omega (arith, (lasts-within s.pause).0)
 requested-later s now (Some u) = omega (arith, renewal-least (u - now))
 
-four-parts : (p q r t : Bool) → (p && (q && (r && t))) ≡ true → (p ≡ true) × (q ≡ true) × (r ≡ true) × (t ≡ true)
-four-parts p q r t e =
+four_parts : (p q r t : Bool) → (p && (q && (r && t))) ≡ true → (p ≡ true) × (q ≡ true) × (r ≡ true) × (t ≡ true)
+four_parts p q r t e =
     let a : (p ≡ true) × ((q && (r && t)) ≡ true) = and_parts p (q && (r && t)) e in
     let b : (q ≡ true) × ((r && t) ≡ true) = and_parts q (r && t) a.1 in
     let c : (r ≡ true) × (t ≡ true) = and_parts r t b.1 in
@@ -104,28 +104,28 @@ four-parts p q r t e =
 
 -- what an equipped client has
 pub has_all : (c : Client) → equipped c ≡ true → (c.state.holder.up ≡ true) × (is_some c.state.settings ≡ true) × (is_some c.state.own ≡ true) × (some c.nonces ≡ true)
-has_all c e = four-parts c.state.holder.up (is_some c.state.settings) (is_some c.state.own) (some c.nonces) e
+has_all c e = four_parts c.state.holder.up (is_some c.state.settings) (is_some c.state.own) (some c.nonces) e
 
-asks-promptly : (t : Turn) (k : Option model.Settings) (own : Option ℕ) (ns : List ℕ) → t.state.settings ≡ k → t.state.own ≡ own → Prompt (asks_by k own t ns).client
-asks-promptly t None own ns e f = λ q. absurd (both_ways _ (ap (λ (o : Option model.Settings). is_some o) e) (has_all (keeps t ns).client q).1)
-asks-promptly t (Some k) None ns e f = λ q. absurd (both_ways _ (ap (λ (o : Option ℕ). is_some o) f) (has_all (keeps t ns).client q).2)
-asks-promptly t (Some k) (Some own) [] e f = λ q. absurd (both_ways false refl (has_all (keeps t []).client q).3)
-asks-promptly t (Some k) (Some own) (n ∷ ns) e f =
+asks_promptly : (t : Turn) (k : Option model.Settings) (own : Option ℕ) (ns : List ℕ) → t.state.settings ≡ k → t.state.own ≡ own → Prompt (asks_by k own t ns).client
+asks_promptly t None own ns e f = λ q. absurd (both_ways _ (ap (λ (o : Option model.Settings). is_some o) e) (has_all (keeps t ns).client q).1)
+asks_promptly t (Some k) None ns e f = λ q. absurd (both_ways _ (ap (λ (o : Option ℕ). is_some o) f) (has_all (keeps t ns).client q).2)
+asks_promptly t (Some k) (Some own) [] e f = λ q. absurd (both_ways false refl (has_all (keeps t []).client q).3)
+asks_promptly t (Some k) (Some own) (n ∷ ns) e f =
     cond_both (ready t.state) (sends k own n t ns) (keeps t (n ∷ ns)) (λ (p : Step). Prompt p.client)
     (λ r q. lt-leb (requested t.state.schedule t.state.holder.clock (option_map until (in_use t.state))).next t.state.holder.clock
     (requested-later t.state.schedule t.state.holder.clock (option_map until (in_use t.state))))
     (λ r q. ⊎_elim (λ d. absurd (both_ways t.state.holder.up d (has_all (keeps t (n ∷ ns)).client q).0)) (λ d. d)
     (and_cases t.state.holder.up (is_due t.state.schedule t.state.holder.clock) r))
 
-going-promptly : (c : Client) (ns : List ℕ) (r : Result Turn lease.Fault) → Prompt c → Prompt (goes_on c ns r).client
-going-promptly c ns (Ok t) p = asks-promptly t t.state.settings t.state.own ns refl refl
-going-promptly c ns (Err f) p = p
+going_promptly : (c : Client) (ns : List ℕ) (r : Result Turn lease.Fault) → Prompt c → Prompt (goes_on c ns r).client
+going_promptly c ns (Ok t) p = asks_promptly t t.state.settings t.state.own ns refl refl
+going_promptly c ns (Err f) p = p
 
-answers-promptly : (c : Client) (a : Answer) → Prompt c → Prompt (answers c a).client
-answers-promptly c (Ok m) p = going-promptly c (queued m c.nonces) (does m c.state) p
-answers-promptly c (Err f) p = p
+answers_promptly : (c : Client) (a : Answer) → Prompt c → Prompt (answers c a).client
+answers_promptly c (Ok m) p = going_promptly c (queued m c.nonces) (does m c.state) p
+answers_promptly c (Err f) p = p
 
 pub prompt : (bs : Run) → Prompt (client bs)
 unfolding client hears
 prompt [] = λ e. absurd (both_ways false refl e)
-prompt (b ∷ bs) = answers-promptly (client bs) (understood b (client bs)) (prompt bs)
+prompt (b ∷ bs) = answers_promptly (client bs) (understood b (client bs)) (prompt bs)

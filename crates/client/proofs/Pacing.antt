@@ -19,7 +19,7 @@ use Rattle.client.specs.Pacing.{clock, some, asks, takes, loses, starts, equippe
 use Rattle.client.specs.Run.{Run, client}
 use Rattle.client.proofs.Scheduling.{view}
 use Rattle.client.proofs.Tracing.{requesting, first, events, stepped, trace, stretch, trace-++, tied, lawful}
-use Rattle.client.proofs.Events.{after-request, never-starts, never-asks, never-tarries, never-loses, never-takes, is-taken}
+use Rattle.client.proofs.Events.{after-request, never_starts, never_asks, never_tarries, never_loses, never_takes, is-taken}
 use Rattle.client.proofs.Moments.{long, prompt, has_all}
 
 -- FROM STEPS TO STRETCHES
@@ -29,41 +29,41 @@ never-++ T base [] fs k j = j
 never-++ T base (d ∷ ds) fs k j =
     (subst (λ (l : List Event). T (retry.client l) d ≡ false) (sym (append_assoc ds fs base)) k.0, never-++ T base ds fs k.1 j)
 
-never-stretch : (T : retry.Client → Event → Bool) (test : List ℕ → Client → Bool) →
+never_stretch : (T : retry.Client → Event → Bool) (test : List ℕ → Client → Bool) →
     ((b : List ℕ) (bs : Run) → test b (client bs) ≡ false → pacing.Never T (trace bs) (events b (client bs))) →
     (before between : Run) → Never test before between → pacing.Never T (trace before) (stretch before between)
 unfolding Never pacing.Never stretch
-never-stretch T test one before [] k = tt
-never-stretch T test one before (b ∷ bs) k =
+never_stretch T test one before [] k = tt
+never_stretch T test one before (b ∷ bs) k =
     never-++ T (trace before) (events b (client (bs ++ before))) (stretch before bs)
     (subst (λ (l : List Event). pacing.Never T l (events b (client (bs ++ before)))) (trace-++ before bs) (one b (bs ++ before) k.0))
-    (never-stretch T test one before bs k.1)
+    (never_stretch T test one before bs k.1)
 
-no-starts : (before between : Run) → Never starts before between → pacing.Never pacing.starts (trace before) (stretch before between)
-no-starts =
-    never-stretch pacing.starts starts
-    (λ b bs e. after-request pacing.starts (trace bs) (λ c. refl) (requests (hears b (client bs)).says) (first b (client bs)) (never-starts (client bs) (trace bs) (understood b (client bs)) e))
+no_starts : (before between : Run) → Never starts before between → pacing.Never pacing.starts (trace before) (stretch before between)
+no_starts =
+    never_stretch pacing.starts starts
+    (λ b bs e. after-request pacing.starts (trace bs) (λ c. refl) (requests (hears b (client bs)).says) (first b (client bs)) (never_starts (client bs) (trace bs) (understood b (client bs)) e))
 
-no-losses : (before between : Run) → Never loses before between → pacing.Never pacing.loses (trace before) (stretch before between)
+no_losses : (before between : Run) → Never loses before between → pacing.Never pacing.loses (trace before) (stretch before between)
 unfolding hears
-no-losses =
-    never-stretch pacing.loses loses
-    (λ b bs e. after-request pacing.loses (trace bs) (λ c. refl) (requests (hears b (client bs)).says) (first b (client bs)) (never-loses (client bs) (trace bs) (tied bs) (understood b (client bs)) e))
+no_losses =
+    never_stretch pacing.loses loses
+    (λ b bs e. after-request pacing.loses (trace bs) (λ c. refl) (requests (hears b (client bs)).says) (first b (client bs)) (never_loses (client bs) (trace bs) (tied bs) (understood b (client bs)) e))
 
-no-takings : (before between : Run) → Never takes before between → pacing.Never pacing.takes (trace before) (stretch before between)
+no_takings : (before between : Run) → Never takes before between → pacing.Never pacing.takes (trace before) (stretch before between)
 unfolding hears
-no-takings =
-    never-stretch pacing.takes takes
-    (λ b bs e. after-request pacing.takes (trace bs) (λ c. refl) (requests (hears b (client bs)).says) (first b (client bs)) (never-takes (client bs) (trace bs) (understood b (client bs)) e))
+no_takings =
+    never_stretch pacing.takes takes
+    (λ b bs e. after-request pacing.takes (trace bs) (λ c. refl) (requests (hears b (client bs)).says) (first b (client bs)) (never_takes (client bs) (trace bs) (understood b (client bs)) e))
 
 silent : (es : List Event) (rs : List lent.Request) (hs : List Event) → some rs ≡ false → pacing.Never pacing.asks es hs → pacing.Never pacing.asks es (requesting rs ++ hs)
 silent es [] hs e k = k
 silent es (r ∷ rs) hs e k = absurd (both_ways true e refl)
 
-no-requests : (before between : Run) → Never asks before between → pacing.Never pacing.asks (trace before) (stretch before between)
-no-requests =
-    never-stretch pacing.asks asks
-    (λ b bs e. silent (trace bs) (requests (hears b (client bs)).says) (first b (client bs)) e (never-asks (client bs) (trace bs) (understood b (client bs))))
+no_requests : (before between : Run) → Never asks before between → pacing.Never pacing.asks (trace before) (stretch before between)
+no_requests =
+    never_stretch pacing.asks asks
+    (λ b bs e. silent (trace bs) (requests (hears b (client bs)).says) (first b (client bs)) e (never_asks (client bs) (trace bs) (understood b (client bs))))
 
 -- the first and the last moment of a stretch
 at_first : (test : Client → Bool) (before between : Run) → Always test before between → test (client before) ≡ true
@@ -76,38 +76,38 @@ unfolding Always
 at_last test before [] k = k
 at_last test before (b ∷ bs) k = k.0
 
-no-tarrying : (before between : Run) → Always equipped before between → pacing.Never pacing.tarries (trace before) (stretch before between)
+no_tarrying : (before between : Run) → Always equipped before between → pacing.Never pacing.tarries (trace before) (stretch before between)
 unfolding Always pacing.Never stretch
-no-tarrying before [] k = tt
-no-tarrying before (b ∷ bs) k =
+no_tarrying before [] k = tt
+no_tarrying before (b ∷ bs) k =
     let c : Client = client (bs ++ before) in
     never-++ pacing.tarries (trace before) (events b c) (stretch before bs)
     (subst (λ (l : List Event). pacing.Never pacing.tarries l (events b c)) (trace-++ before bs)
     (after-request pacing.tarries (trace (bs ++ before)) (λ x. refl) (requests (hears b c).says) (first b c)
-    (never-tarries c (trace (bs ++ before)) (tied (bs ++ before)) (prompt (bs ++ before) (at_last equipped before bs k.1)) (understood b c))))
-    (no-tarrying before bs k.1)
+    (never_tarries c (trace (bs ++ before)) (tied (bs ++ before)) (prompt (bs ++ before) (at_last equipped before bs k.1)) (understood b c))))
+    (no_tarrying before bs k.1)
 
 -- THE LAWS
-pub pauses-end : PausesEnd
-pauses-end before between none all ns nt na =
+pub pauses_end : PausesEnd
+pauses_end before between none all ns nt na =
     let up : (client before).state.holder.up ≡ true = (has_all (client before) (at_first equipped before between all)).0 in
     let still : (client (between ++ before)).state.holder.up ≡ true = (has_all (client (between ++ before)) (at_last equipped before between all)).0 in
     let old : view (client before).state ≡ retry.client (trace before) = tied before up in
     let new : view (client (between ++ before)).state ≡ retry.client (stretch before between ++ trace before) = tied (between ++ before) still ∙ ap retry.client (trace-++ before between) in
     let law : (retry.client (stretch before between ++ trace before)).clock ≤ (retry.client (trace before)).clock + 64 =
-    in-time.pauses-end (trace before) (stretch before between)
+    in-time.pauses_end (trace before) (stretch before between)
     (ap (λ (c : retry.Client). c.uses) (sym old) ∙ ap (λ (o : Option Use). option_map until o) none)
-    (no-starts before between ns) (no-takings before between nt) (no-tarrying before between all) (no-requests before between na)
+    (no_starts before between ns) (no_takings before between nt) (no_tarrying before between all) (no_requests before between na)
     in
     omega (arith, ap (λ (c : retry.Client). c.clock) old, ap (λ (c : retry.Client). c.clock) new)
 
 -- the events of a step that asks
 asking : (b : List ℕ) (c : Client) → asks b c ≡ true → events b c ≡ Asks ∷ first b c
-asking b c e = one-event (requests (hears b c).says) e
+asking b c e = one_event (requests (hears b c).says) e
   where
-    one-event : (rs : List lent.Request) → some rs ≡ true → requesting rs ++ first b c ≡ Asks ∷ first b c
-    one-event [] f = absurd (both_ways false refl f)
-    one-event (r ∷ rs) f = refl
+    one_event : (rs : List lent.Request) → some rs ≡ true → requesting rs ++ first b c ≡ Asks ∷ first b c
+    one_event [] f = absurd (both_ways false refl f)
+    one_event (r ∷ rs) f = refl
 
 -- the schedule's client right before the request of a step
 pub asked-at : (b : List ℕ) (bs : Run) → asks b (client bs) ≡ true → view (client (b ∷ bs)).state ≡ retry.client (Asks ∷ (first b (client bs) ++ trace bs))
@@ -135,57 +135,57 @@ module _ (before between : Run) (one two : List ℕ) (asks-one : asks one (clien
   unfolding trace
   from_one = ap (λ (l : List Event). l ++ trace before) (asking one (client before) asks-one)
 
-  to-two : middle ++ (Asks ∷ base) ≡ first two c ++ trace (between ++ (one ∷ before))
-  to-two =
+  to_two : middle ++ (Asks ∷ base) ≡ first two c ++ trace (between ++ (one ∷ before))
+  to_two =
       append_assoc (first two c) (stretch (one ∷ before) between) (Asks ∷ base)
       ∙ ap (λ (l : List Event). first two c ++ l) (ap (λ (l : List Event). stretch (one ∷ before) between ++ l) (sym from_one) ∙ sym (trace-++ (one ∷ before) between))
 
-  all-lawful : Lawful (Asks ∷ (middle ++ (Asks ∷ base)))
+  all_lawful : Lawful (Asks ∷ (middle ++ (Asks ∷ base)))
   unfolding trace
-  all-lawful =
-      subst (λ (l : List Event). Lawful (Asks ∷ l)) (sym to-two)
+  all_lawful =
+      subst (λ (l : List Event). Lawful (Asks ∷ l)) (sym to_two)
       (subst (λ (l : List Event). Lawful (l ++ trace (between ++ (one ∷ before)))) (asking two c asks_two) (lawful (two ∷ (between ++ (one ∷ before)))))
 
-  never-middle : (T : retry.Client → Event → Bool) → pacing.Never T (trace (one ∷ before)) (stretch (one ∷ before) (two ∷ between)) → pacing.Never T (Asks ∷ base) middle
+  never_middle : (T : retry.Client → Event → Bool) → pacing.Never T (trace (one ∷ before)) (stretch (one ∷ before) (two ∷ between)) → pacing.Never T (Asks ∷ base) middle
   unfolding stretch pacing.Never
-  never-middle T k =
+  never_middle T k =
       subst (λ (l : List Event). pacing.Never T l middle) from_one
       (subst (λ (l : List Event). pacing.Never T (trace (one ∷ before)) (l ++ stretch (one ∷ before) between)) (asking two c asks_two) k).1
 
   clock-one : clock (client (one ∷ before)) ≡ (retry.client base).clock
   clock-one = asked-clock one before asks-one
 
-  at-two : view (client (two ∷ (between ++ (one ∷ before)))).state ≡ retry.client (Asks ∷ (middle ++ (Asks ∷ base)))
-  at-two = asked-at two (between ++ (one ∷ before)) asks_two ∙ ap (λ (l : List Event). retry.client (Asks ∷ l)) (sym to-two)
+  at_two : view (client (two ∷ (between ++ (one ∷ before)))).state ≡ retry.client (Asks ∷ (middle ++ (Asks ∷ base)))
+  at_two = asked-at two (between ++ (one ∷ before)) asks_two ∙ ap (λ (l : List Event). retry.client (Asks ∷ l)) (sym to_two)
 
-  clock-two : clock (client (two ∷ (between ++ (one ∷ before)))) ≡ (retry.client (middle ++ (Asks ∷ base))).clock
+  clock_two : clock (client (two ∷ (between ++ (one ∷ before)))) ≡ (retry.client (middle ++ (Asks ∷ base))).clock
   unfolding retry.client
-  clock-two = ap (λ (x : retry.Client). x.clock) at-two
+  clock_two = ap (λ (x : retry.Client). x.clock) at_two
 
-  uses-two : option_map until (in_use (client (two ∷ (between ++ (one ∷ before)))).state) ≡ (retry.client (middle ++ (Asks ∷ base))).uses
+  uses_two : option_map until (in_use (client (two ∷ (between ++ (one ∷ before)))).state) ≡ (retry.client (middle ++ (Asks ∷ base))).uses
   unfolding retry.client
-  uses-two = ap (λ (x : retry.Client). x.uses) at-two
+  uses_two = ap (λ (x : retry.Client). x.uses) at_two
 
   four : Never starts (one ∷ before) (two ∷ between) → Never loses (one ∷ before) (two ∷ between) → clock (client (one ∷ before)) + 4 ≤ clock (client (two ∷ (between ++ (one ∷ before))))
   four ns nl =
       let law : (retry.client base).clock + 4 ≤ (retry.client (middle ++ (Asks ∷ base))).clock =
-      apart.four-apart base middle all-lawful (never-middle pacing.starts (no-starts (one ∷ before) (two ∷ between) ns)) (never-middle pacing.loses (no-losses (one ∷ before) (two ∷ between) nl))
+      apart.four_apart base middle all_lawful (never_middle pacing.starts (no_starts (one ∷ before) (two ∷ between) ns)) (never_middle pacing.loses (no_losses (one ∷ before) (two ∷ between) nl))
       in
-      omega (arith, clock-one, clock-two)
+      omega (arith, clock-one, clock_two)
 
   sixty : (u : Use) → Never starts (one ∷ before) (two ∷ between) → in_use (client (two ∷ (between ++ (one ∷ before)))).state ≡ Some u →
       clock (client (one ∷ before)) + 60 ≤ clock (client (two ∷ (between ++ (one ∷ before))))
   sixty u ns e =
       let law : (retry.client base).clock + 60 ≤ (retry.client (middle ++ (Asks ∷ base))).clock =
-      apart.sixty-apart base middle all-lawful (never-middle pacing.starts (no-starts (one ∷ before) (two ∷ between) ns)) u.until (sym uses-two ∙ ap (λ (o : Option Use). option_map until o) e)
+      apart.sixty_apart base middle all_lawful (never_middle pacing.starts (no_starts (one ∷ before) (two ∷ between) ns)) u.until (sym uses_two ∙ ap (λ (o : Option Use). option_map until o) e)
       in
-      omega (arith, clock-one, clock-two)
+      omega (arith, clock-one, clock_two)
 
-pub four-apart : FourApart
-four-apart before between one two e f ns nl = four before between one two e f ns nl
+pub four_apart : FourApart
+four_apart before between one two e f ns nl = four before between one two e f ns nl
 
-pub sixty-apart : SixtyApart
-sixty-apart before between one two u e f ns i = sixty before between one two e f u ns i
+pub sixty_apart : SixtyApart
+sixty_apart before between one two u e f ns i = sixty before between one two e f u ns i
 
 -- A REQUEST AMONG THE EVENTS OF A STRETCH IS ONE OF THE CLIENT'S
 skip : (limit : ℕ) (base hs rest : List Event) → pacing.Never pacing.asks (rest ++ base) hs → pacing.AsksBy limit base (hs ++ rest) → pacing.AsksBy limit base rest
@@ -226,7 +226,7 @@ module _ (limit : ℕ) (base tail : List Event) (before : Run) (whole : trace be
         subst (λ (n : ℕ). n ≤ limit)
             (ap (λ (l : List Event). (retry.client l).clock) (append_assoc hs rest base ∙ ap (λ (l : List Event). hs ++ l) (reached bs)) ∙ sym (asked-clock b (bs ++ before) k.0)) k.1,
       ))
-      (λ k. inr (skip limit base hs rest (never-asks d (rest ++ base) (understood b d)) k))
+      (λ k. inr (skip limit base hs rest (never_asks d (rest ++ base) (understood b d)) k))
       (peel limit base rs (hs ++ rest) (subst (λ (l : List Event). pacing.AsksBy limit base l) same a))
 
   in-stretch : (bs : Run) → pacing.AsksBy limit base (stretch before bs ++ tail) → AsksBy limit before bs ⊎ pacing.AsksBy limit base tail
@@ -238,10 +238,10 @@ used-until : (o : Option Use) (n : ℕ) → option_map until o ≡ Some n → (a
 used-until None n e = absurd (some-none n e)
 used-until (Some u) n e = (u.address, ap (λ (k : ℕ). Some (record { address = u.address; until = k })) (some_same u.until n e))
 
-never-requesting : (T : retry.Client → Event → Bool) (es : List Event) → ((x : retry.Client) → T x Asks ≡ false) → (rs : List lent.Request) → pacing.Never T es (requesting rs)
+never_requesting : (T : retry.Client → Event → Bool) (es : List Event) → ((x : retry.Client) → T x Asks ≡ false) → (rs : List lent.Request) → pacing.Never T es (requesting rs)
 unfolding pacing.Never
-never-requesting T es free [] = tt
-never-requesting T es free (r ∷ rs) = (free _, tt)
+never_requesting T es free [] = tt
+never_requesting T es free (r ∷ rs) = (free _, tt)
 
 uses-taken : (a t : ℕ) (es : List Event) (rs : List lent.Request) → (retry.client (requesting rs ++ (Takes a t ∷ es))).uses ≡ Some (a + t)
 unfolding retry.client
@@ -268,13 +268,13 @@ module _ (before between : Run) (grant : List ℕ) (a t : ℕ) (is : first grant
   abbrev after : List Event
   after = stretch (grant ∷ before) between ++ requesting rs
 
-  to-now : after ++ since ≡ trace (between ++ (grant ∷ before))
-  to-now = reached 0 since (requesting rs) (grant ∷ before) from-grant between
+  to_now : after ++ since ≡ trace (between ++ (grant ∷ before))
+  to_now = reached 0 since (requesting rs) (grant ∷ before) from-grant between
 
-  never-after : (T : retry.Client → Event → Bool) → ((x : retry.Client) → T x Asks ≡ false) → pacing.Never T (trace (grant ∷ before)) (stretch (grant ∷ before) between) → pacing.Never T since after
-  never-after T free k =
+  never_after : (T : retry.Client → Event → Bool) → ((x : retry.Client) → T x Asks ≡ false) → pacing.Never T (trace (grant ∷ before)) (stretch (grant ∷ before) between) → pacing.Never T since after
+  never_after T free k =
       never-++ T since (stretch (grant ∷ before) between) (requesting rs)
-      (subst (λ (l : List Event). pacing.Never T l (stretch (grant ∷ before) between)) from-grant k) (never-requesting T since free rs)
+      (subst (λ (l : List Event). pacing.Never T l (stretch (grant ∷ before) between)) from-grant k) (never_requesting T since free rs)
 
   until-is : (u : Use) → (client (grant ∷ before)).state.holder.up ≡ true → in_use (client (grant ∷ before)).state ≡ Some u → a + t ≡ u.until
   until-is u up e =
@@ -284,7 +284,7 @@ module _ (before between : Run) (grant : List ℕ) (a t : ℕ) (is : first grant
 
   still : (client (between ++ (grant ∷ before))).state.holder.up ≡ true → pacing.StillUses (a + t) (retry.client (after ++ since)) → StillUses (a + t) (client (between ++ (grant ∷ before)))
   still up k =
-      let v : view (client (between ++ (grant ∷ before))).state ≡ retry.client (after ++ since) = tied (between ++ (grant ∷ before)) up ∙ ap retry.client (sym to-now) in
+      let v : view (client (between ++ (grant ∷ before))).state ≡ retry.client (after ++ since) = tied (between ++ (grant ∷ before)) up ∙ ap retry.client (sym to_now) in
       let o : (n : ℕ) × (in_use (client (between ++ (grant ∷ before))).state ≡ Some (record { address = n; until = a + t })) =
       used-until (in_use (client (between ++ (grant ∷ before))).state) (a + t) (ap (λ (x : retry.Client). x.uses) v ∙ k.uses)
       in
@@ -296,12 +296,12 @@ module _ (before between : Run) (grant : List ℕ) (a t : ℕ) (is : first grant
       ⊎_elim
       (λ k. inl (still (has_all (client (between ++ (grant ∷ before))) (at_last equipped (grant ∷ before) between all)).0 k))
       (λ k. inr (⊎_elim (λ j. inr j) (λ j. inl (some-asked (a + t) since rs j)) (in-stretch (a + t) since (requesting rs) (grant ∷ before) from-grant between k)))
-      (in-time.asks-in-time (trace before) after a t (subst (λ (l : List Event). Lawful l) (sym to-now) (lawful (between ++ (grant ∷ before)))) minute
-      (never-after pacing.starts (λ x. refl) (no-starts (grant ∷ before) between ns)) (never-after pacing.tarries (λ x. refl) (no-tarrying (grant ∷ before) between all)))
+      (in-time.asks_in_time (trace before) after a t (subst (λ (l : List Event). Lawful l) (sym to_now) (lawful (between ++ (grant ∷ before)))) minute
+      (never_after pacing.starts (λ x. refl) (no_starts (grant ∷ before) between ns)) (never_after pacing.tarries (λ x. refl) (no_tarrying (grant ∷ before) between all)))
 
-pub asks-in-time : AsksInTime
+pub asks_in_time : AsksInTime
 unfolding hears
-asks-in-time before between grant u e i all ns =
+asks_in_time before between grant u e i all ns =
     let k : (a : ℕ) × (t : ℕ) × (first grant (client before) ≡ Takes a t ∷ []) × (60 ≤ t) = is-taken (client before) (long before) (understood grant (client before)) e in
     let up : (client (grant ∷ before)).state.holder.up ≡ true = (has_all (client (grant ∷ before)) (at_first equipped (grant ∷ before) between all)).0 in
     subst (λ (n : ℕ). StillUses n (client (between ++ (grant ∷ before))) ⊎ ((asks grant (client before) ≡ true) ⊎ AsksBy n (grant ∷ before) between))

@@ -44,10 +44,10 @@ absent-before n (x ∷ xs) ys e =
     let p : (eqb n x ≡ false) × (elem n (xs ++ ys) ≡ false) = or_parts (eqb n x) (elem n (xs ++ ys)) e in
     or_from (eqb n x) (elem n xs) p.0 (absent-before n xs ys p.1)
 
-distinct-before : (xs ys : List ℕ) → Distinct (xs ++ ys) → Distinct xs
+distinct_before : (xs ys : List ℕ) → Distinct (xs ++ ys) → Distinct xs
 unfolding Distinct
-distinct-before [] ys d = tt
-distinct-before (x ∷ xs) ys d = (absent-before x xs ys d.0, distinct-before xs ys d.1)
+distinct_before [] ys d = tt
+distinct_before (x ∷ xs) ys d = (absent-before x xs ys d.0, distinct_before xs ys d.1)
 
 pub used-once : UsedOnce
-used-once bs d = distinct-before (nonces (requests (said bs))) (client bs).nonces (subst Distinct (in_order bs) d)
+used-once bs d = distinct_before (nonces (requests (said bs))) (client bs).nonces (subst Distinct (in_order bs) d)

@@ -65,9 +65,9 @@ module _ (s : State) (es : List Event) (tie : Tied s es) where
   abbrev next : Option Use → Schedule → retry.Client
   next o schedule = record { clock = s.holder.clock + 1; uses = option_map until o; waits = option_map asked_in s.holder.holding.waits; schedule = schedule }
 
-  after-pass : s.holder.up ≡ true → (schedule : Schedule) →
+  after_pass : s.holder.up ≡ true → (schedule : Schedule) →
       view (record { settings = s.settings; own = s.own; holder = client_passes 1 s.holder; schedule = schedule; last = s.last }) ≡ next (still_used (s.holder.clock + 1) (in_use s)) schedule
-  after-pass up schedule = ap (λ (x : world.Client). view (record { settings = s.settings; own = s.own; holder = x; schedule = schedule; last = s.last })) (cond-true s.holder.up _ _ up)
+  after_pass up schedule = ap (λ (x : world.Client). view (record { settings = s.settings; own = s.own; holder = x; schedule = schedule; last = s.last })) (cond-true s.holder.up _ _ up)
 
   passing : s.holder.up ≡ true → Part (passes s).state (Ticks ∷ []) es
   unfolding Lawful retry.client
@@ -76,18 +76,18 @@ module _ (s : State) (es : List Event) (tie : Tied s es) where
       cond_both (over (s.holder.clock + 1) (option_map until (in_use s))) _ _ (λ (t : Turn). Part t.state (Ticks ∷ []) es)
       (λ e. record {
         lawful = λ l. (tt, l);
-        tied = λ _. after-pass up (starting now) ∙ ap (λ (o : Option Use). next o (starting now)) (gone now (in_use s) e)
+        tied = λ _. after_pass up (starting now) ∙ ap (λ (o : Option Use). next o (starting now)) (gone now (in_use s) e)
             ∙ sym (cond-true (over now (option_map until (in_use s))) (next None (starting now)) (next (in_use s) s.schedule) e) ∙ ap ticked (tie up);
       })
       (λ e. record {
         lawful = λ l. (tt, l);
-        tied = λ _. after-pass up s.schedule ∙ ap (λ (o : Option Use). next o s.schedule) (stays now (in_use s) e)
+        tied = λ _. after_pass up s.schedule ∙ ap (λ (o : Option Use). next o s.schedule) (stays now (in_use s) e)
             ∙ sym (cond-false (over now (option_map until (in_use s))) (next None (starting now)) (next (in_use s) s.schedule) e) ∙ ap ticked (tie up);
       })
 
   -- events that depend on whether it is up
-  by-up : (hs : List Event) (t : State) → s.holder.up ≡ true → Part t hs es → Part t (cond s.holder.up hs []) es
-  by-up hs t up k = subst (λ (l : List Event). Part t l es) (sym (cond-true s.holder.up hs [] up)) k
+  by_up : (hs : List Event) (t : State) → s.holder.up ≡ true → Part t hs es → Part t (cond s.holder.up hs []) es
+  by_up hs t up k = subst (λ (l : List Event). Part t l es) (sym (cond-true s.holder.up hs [] up)) k
 
   by_down : (hs : List Event) → s.holder.up ≡ false → Part s (cond s.holder.up hs []) es
   by_down hs down = subst (λ (l : List Event). Part s l es) (sym (cond-false s.holder.up hs [] down)) same
@@ -95,7 +95,7 @@ module _ (s : State) (es : List Event) (tie : Tied s es) where
   ticking : After (happened Tick s) (ticks s)
   ticking =
       cond_both s.holder.up _ _ (λ r. After (happened Tick s) r)
-      (λ up. cond_both (leb (2 ^ 63) (s.holder.clock + 1)) _ _ (λ r. After (happened Tick s) r) (λ e. tt) (λ e. by-up (Ticks ∷ []) (passes s).state up (passing up)))
+      (λ up. cond_both (leb (2 ^ 63) (s.holder.clock + 1)) _ _ (λ r. After (happened Tick s) r) (λ e. tt) (λ e. by_up (Ticks ∷ []) (passes s).state up (passing up)))
       (λ down. by_down (Ticks ∷ []) down)
 
   crashing : Part (crashes s).state [] es
@@ -134,17 +134,17 @@ module _ (s : State) (es : List Event) (tie : Tied s es) where
       }
   taking k g up (Err f) t = tt
 
-  granting-by : (g : lent.Grant) → s.holder.up ≡ true → (o : Option ℕ) (k : Option model.Settings) →
+  granting_by : (g : lent.Grant) → s.holder.up ≡ true → (o : Option ℕ) (k : Option model.Settings) →
       After (Takes (asked_at s.holder.holding.waits) (term_of k) ∷ []) (state.granted o k g s)
-  granting-by g up None k = tt
-  granting-by g up (Some own) None = tt
-  granting-by g up (Some own) (Some k) = taking k g up (hearing k.term own g s.holder) (took k.term g s.holder own up)
+  granting_by g up None k = tt
+  granting_by g up (Some own) None = tt
+  granting_by g up (Some own) (Some k) = taking k g up (hearing k.term own g s.holder) (took k.term g s.holder own up)
 
   granting : (g : lent.Grant) → After (happened (Grant g) s) (grants g s)
   granting g =
       cond_both s.holder.up _ _ (λ r. After (happened (Grant g) s) r)
       (λ up. subst (λ (l : List Event). After l (state.granted s.own s.settings g s)) (sym (cond-true s.holder.up (Takes (asked_at s.holder.holding.waits) (term_of s.settings) ∷ []) [] up))
-      (granting-by g up s.own s.settings))
+      (granting_by g up s.own s.settings))
       (λ down. by_down (Takes (asked_at s.holder.holding.waits) (term_of s.settings) ∷ []) down)
 
   pub part : (m : Message) → IfOk (does m s) (λ t. Part t.state (happened m s) es)

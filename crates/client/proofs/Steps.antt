@@ -59,17 +59,17 @@ sent-++ [] es = refl
 sent-++ (d ∷ ds) es = ap (λ (l : List lent.Request). sends-of d ++ l) (sent-++ ds es) ∙ sym (append_assoc (sends-of d) (sent ds) (sent es))
 
 -- what fits one state fits another with the same number and settings
-fits-too : (s s' : State) → s'.own ≡ s.own → s'.settings ≡ s.settings → (a : Act) (x : world.Client) → Fits s a x → Fits s' a x
-fits-too s s' e f Passes x k = tt
-fits-too s s' e f (Asks r) x k = (e ∙ k.0, k.1)
-fits-too s s' e f (Hears own h g) x k = (e ∙ k.0, f ∙ k.1)
-fits-too s s' e f Crashes x k = tt
-fits-too s s' e f (Starts clock) x k = tt
+fits_too : (s s' : State) → s'.own ≡ s.own → s'.settings ≡ s.settings → (a : Act) (x : world.Client) → Fits s a x → Fits s' a x
+fits_too s s' e f Passes x k = tt
+fits_too s s' e f (Asks r) x k = (e ∙ k.0, k.1)
+fits_too s s' e f (Hears own h g) x k = (e ∙ k.0, f ∙ k.1)
+fits_too s s' e f Crashes x k = tt
+fits_too s s' e f (Starts clock) x k = tt
 
 fit-++ : (s s' : State) → s'.own ≡ s.own → s'.settings ≡ s.settings → (ds es : List Act) (x : world.Client) → Fit s ds x → Fit s' es (acts ds x) → Fit s' (ds ++ es) x
 unfolding Fit acts
 fit-++ s s' e f [] es x k j = j
-fit-++ s s' e f (d ∷ ds) es x k j = (fits-too s s' e f d x k.0, fit-++ s s' e f ds es (act d x) k.1 j)
+fit-++ s s' e f (d ∷ ds) es x k j = (fits_too s s' e f d x k.0, fit-++ s s' e f ds es (act d x) k.1 j)
 
 none_from : (m : Message) → AllFrom m []
 unfolding AllFrom
@@ -197,5 +197,5 @@ laws bs c =
     let k : Lawful (understood bs c) c (lent bs) (hears bs c) = lawful bs c in
     record { tells = k.tells; in_order = k.in_order; refines = done (understood bs c) c (hears bs c) k.refines }
 
-pub laws-heard : (bs : List ℕ) (c : Client) → RefinesHeard (understood bs c) c (hears bs c)
-laws-heard bs c = (lawful bs c).refines
+pub laws_heard : (bs : List ℕ) (c : Client) → RefinesHeard (understood bs c) c (hears bs c)
+laws_heard bs c = (lawful bs c).refines

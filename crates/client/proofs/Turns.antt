@@ -119,14 +119,14 @@ module _ (s : State) where
       }
   taking own k g up o p (Err f) e t = tt
 
-  granting-by : (g : lent.Grant) → s.holder.up ≡ true → (o : Option ℕ) → s.own ≡ o → (k : Option model.Settings) → s.settings ≡ k → After (Grant g) s (granted o k g s)
-  granting-by g up None e k f = tt
-  granting-by g up (Some own) e None f = tt
-  granting-by g up (Some own) e (Some k) f = taking own k g up e f (hearing k.term own g s.holder) refl (took k.term g s.holder own up)
+  granting_by : (g : lent.Grant) → s.holder.up ≡ true → (o : Option ℕ) → s.own ≡ o → (k : Option model.Settings) → s.settings ≡ k → After (Grant g) s (granted o k g s)
+  granting_by g up None e k f = tt
+  granting_by g up (Some own) e None f = tt
+  granting_by g up (Some own) e (Some k) f = taking own k g up e f (hearing k.term own g s.holder) refl (took k.term g s.holder own up)
 
   granting : (g : lent.Grant) → After (Grant g) s (grants g s)
   granting g =
-      cond_both s.holder.up _ _ (λ r. After (Grant g) s r) (λ up. granting-by g up s.own refl s.settings refl) (λ down. unchanged _ s s refl)
+      cond_both s.holder.up _ _ (λ r. After (Grant g) s r) (λ up. granting_by g up s.own refl s.settings refl) (λ down. unchanged _ s s refl)
 
   pub turned : (m : Message) → IfOk (does m s) (λ t. Turned m s t)
   turned (Request r) = tt

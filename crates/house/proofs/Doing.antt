@@ -48,13 +48,13 @@ placed true x y e = cc
 placed false x y e = let z : ◌≡◌ {A = ℕ} 0 1 = cc in absurd (omega arith)
 
 -- the first places were saved, and the next was not: so much for all of them
-pub saves-fail : {O : Type 0} (did : O → List Act → Type 0) (a b : O) (p : Bytes) (f i n : ℕ) → i < n → Partly did a (saves p f (suc i)) b → Partly did a (saves p f n) b
+pub saves_fail : {O : Type 0} (did : O → List Act → Type 0) (a b : O) (p : Bytes) (f i n : ℕ) → i < n → Partly did a (saves p f (suc i)) b → Partly did a (saves p f n) b
 unfolding saves
-saves-fail did a b p f i zero h k = absurd (omega arith)
-saves-fail did a b p f i (suc n) h k =
+saves_fail did a b p f i zero h k = absurd (omega arith)
+saves_fail did a b p f i (suc n) h k =
     elim (cases_eq i n) [
       | inl e ↦ subst (λ (x : ℕ). Partly did a (saves p f (suc x)) b) e k
-      | inr ne ↦ fails-first did a b (saves p f n) (saved p (f + n)) (saves-fail did a b p f i n (omega arith) k)
+      | inr ne ↦ fails-first did a b (saves p f n) (saved p (f + n)) (saves_fail did a b p f i n (omega arith) k)
     ]
 
 pub saves-more : {O : Type 0} (did : O → List Act → Type 0) (a b c : O) (p : Bytes) (f i : ℕ)
@@ -62,10 +62,10 @@ pub saves-more : {O : Type 0} (did : O → List Act → Type 0) (a b c : O) (p :
 unfolding saves
 saves-more did a b c p f i g h = rw add-one (more did a b c (saves p f i) (saved p (f + i)) g h)
 
-pub saves-stop : {O : Type 0} (did : O → List Act → Type 0) (a b c : O) (p : Bytes) (f i n : ℕ) → i < n
+pub saves_stop : {O : Type 0} (did : O → List Act → Type 0) (a b c : O) (p : Bytes) (f i n : ℕ) → i < n
     → Grows did a (saves p f i) b → Partly did b (saved p (f + i)) c → Partly did a (saves p f n) c
 unfolding saves
-saves-stop did a b c p f i n l g h = saves-fail did a c p f i n l (fails-later did a b c (saves p f i) (saved p (f + i)) g h)
+saves_stop did a b c p f i n l g h = saves_fail did a c p f i n l (fails-later did a b c (saves p f i) (saved p (f + i)) g h)
 
 pub saves-none : {O : Type 0} (did : O → List Act → Type 0) (a : O) (p : Bytes) (f : ℕ) → Grows did a (saves p f 0) a
 unfolding saves
@@ -74,21 +74,21 @@ saves-none did a p f = nothing did a
 acts-next : (p : Bytes) (es : List Effect) (i : ℕ) (d : Effect) → i < length es → acts p (take (i + 1) es) ≡ acts p (take i es) ++ acts_of p (get_or es i d)
 acts-next p es i d h = ap (acts p) (take_more es i d h) ∙ sym (flat_map_more (acts_of p) [] (take i es) (get_or es i d))
 
-joined-both : {X A : Type 0} (f : X → List A) (xs ys : List X) → flat_map f (xs ++ ys) ≡ flat_map f xs ++ flat_map f ys
-joined-both f [] ys = refl
-joined-both f (x ∷ xs) ys = ap (λ z. f x ++ z) (joined-both f xs ys) ∙ sym (append_assoc (f x) (flat_map f xs) (flat_map f ys))
+joined_both : {X A : Type 0} (f : X → List A) (xs ys : List X) → flat_map f (xs ++ ys) ≡ flat_map f xs ++ flat_map f ys
+joined_both f [] ys = refl
+joined_both f (x ∷ xs) ys = ap (λ z. f x ++ z) (joined_both f xs ys) ∙ sym (append_assoc (f x) (flat_map f xs) (flat_map f ys))
 
 acts-split : (p : Bytes) (es : List Effect) (n : ℕ) → acts p es ≡ acts p (take n es) ++ acts p (drop n es)
-acts-split p es n = ap (acts p) (sym (take-append-drop n es)) ∙ joined-both (acts_of p) (take n es) (drop n es)
+acts-split p es n = ap (acts p) (sym (take-append-drop n es)) ∙ joined_both (acts_of p) (take n es) (drop n es)
 
 pub acts-more : {O : Type 0} (did : O → List Act → Type 0) (a b c : O) (p : Bytes) (es : List Effect) (i : ℕ) (d : Effect) → i < length es
     → Grows did a (acts p (take i es)) b → Grows did b (acts_of p (get_or es i d)) c → Grows did a (acts p (take (i + 1) es)) c
 acts-more did a b c p es i d l g h =
     subst (λ xs. Grows did a xs c) (sym (acts-next p es i d l)) (more did a b c (acts p (take i es)) (acts_of p (get_or es i d)) g h)
 
-pub acts-stop : {O : Type 0} (did : O → List Act → Type 0) (a b c : O) (p : Bytes) (es : List Effect) (i : ℕ) (d : Effect) → i < length es
+pub acts_stop : {O : Type 0} (did : O → List Act → Type 0) (a b c : O) (p : Bytes) (es : List Effect) (i : ℕ) (d : Effect) → i < length es
     → Grows did a (acts p (take i es)) b → Partly did b (acts_of p (get_or es i d)) c → Partly did a (acts p es) c
-acts-stop did a b c p es i d l g h =
+acts_stop did a b c p es i d l g h =
     subst (λ xs. Partly did a xs c) (sym (acts-split p es (i + 1)))
     (fails-first did a c (acts p (take (i + 1) es)) (acts p (drop (i + 1) es))
     (subst (λ xs. Partly did a xs c) (sym (acts-next p es i d l)) (fails-later did a b c (acts p (take i es)) (acts_of p (get_or es i d)) g h)))

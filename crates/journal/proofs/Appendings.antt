@@ -11,7 +11,7 @@ use Rattle.journal.specs.declared.state.Found.TheVariants as found
 use Rattle.journal.specs.declared.state.Written.{Written}
 use Rattle.journal.specs.Place.{Holds}
 use Rattle.journal.specs.Bytes.{encoded, decoded}
-use Rattle.journal.specs.Table.{Table, keeping, set as set-in}
+use Rattle.journal.specs.Table.{Table, keeping, set as set_in}
 use Rattle.journal.specs.Device.{Side, other, Device, Choice, chosen, is_found, Cursor}
 use Rattle.journal.specs.Append.{Plan, in_row, in_other, exhausted, numbered, writes, put, perform}
 use Rattle.journal.specs.Image.{index, stored, choice_from, device_of, table_in}
@@ -20,12 +20,12 @@ use Rattle.journal.specs.Laws.{Ready}
 use Rattle.journal.specs.Promise.{planned, Gives, Stands, Outlives}
 use Rattle.journal.specs.Durable.{CutFile}
 use Rattle.journal.proofs.Durables.{cut-file}
-use Rattle.journal.proofs.Appends.{append-stands, append-survives}
-use Rattle.journal.proofs.Progress.{length-numbered}
+use Rattle.journal.proofs.Appends.{append_stands, append_survives}
+use Rattle.journal.proofs.Progress.{length_numbered}
 
 -- a written journal has its table in the active row
-table-in : (j : Journal) (s : Side) → j.found ≡ found.Table → (cursor_of j).side ≡ s → choice_of j ≡ Choice.Found s
-table-in j s f e = ap (λ (g : Found). choice_from g j.active) f ∙ ap Choice.Found e
+table_in_lem : (j : Journal) (s : Side) → j.found ≡ found.Table → (cursor_of j).side ≡ s → choice_of j ≡ Choice.Found s
+table_in_lem j s f e = ap (λ (g : Found). choice_from g j.active) f ∙ ap Choice.Found e
 
 module _ (before end : Journal) (x : Lease) (w : Written) where
   abbrev c : Cursor
@@ -41,7 +41,7 @@ module _ (before end : Journal) (x : Lease) (w : Written) where
         bytes = b;
         device = d;
         cursor = e ∙ ap (λ (k : ℕ). record { side = c.side; first = c.first; count = suc k; base = c.base; highest = max c.highest (c.first + k) }) z;
-        choice = table-in end c.side f (ap (λ (v : Cursor). v.side) e);
+        choice = table_in_lem end c.side f (ap (λ (v : Cursor). v.side) e);
         first = p;
         count = n;
         early = lt-leb (2 ^ 63) (c.first + (c.count + 0)) (omega arith);
@@ -68,9 +68,9 @@ module _ (before end : Journal) (x : Lease) (w : Written) where
           cursor = z.cursor
               ∙ ap₂ (λ (i h : ℕ). record { side = other c.side; first = suc c.highest; count = i; base = length (keeping now u n); highest = h })
               {x = length (keeping now u n ++ (x ∷ []))} {y = suc (0 + length (keeping now u n))} {u = c.highest + length (keeping now u n ++ (x ∷ []))} {v = max c.highest (suc c.highest + (0 + length (keeping now u n)))} (omega arith) (omega arith);
-          choice = table-in end (other c.side) f (ap (λ (v : Cursor). v.side) z.cursor);
+          choice = table_in_lem end (other c.side) f (ap (λ (v : Cursor). v.side) z.cursor);
           first = p;
-          count = m ∙ sym (length-numbered (other c.side) 0 (suc c.highest + 0) (length (keeping now u n)) (keeping now u n ++ (x ∷ [])) ∙ k);
+          count = m ∙ sym (length_numbered (other c.side) 0 (suc c.highest + 0) (length (keeping now u n)) (keeping now u n ++ (x ∷ [])) ∙ k);
           early = lt-leb (2 ^ 63) (suc c.highest + (0 + length (keeping now u n))) (omega arith);
           legible = subst (λ (i : ℕ). AllByRecursion Legible (numbered (other c.side) 0 i (length (keeping now u n)) (keeping now u n ++ (x ∷ [])))) q z.legible;
           inside = omega arith;
@@ -78,13 +78,13 @@ module _ (before end : Journal) (x : Lease) (w : Written) where
 
 -- the laws, of the journal's own device
 outlived : (clock : ℕ) (xs : List (Option Lease)) (before : Journal) (x : Lease) → Outlives clock xs before x
-outlived clock xs before x then i k room on r = append-survives 4096 (length xs) clock then (places_of before) (cursor_of before) (table_in xs) x i k room on r
+outlived clock xs before x then i k room on r = append_survives 4096 (length xs) clock then (places_of before) (cursor_of before) (table_in xs) x i k room on r
 
 stood : (clock : ℕ) (xs : List (Option Lease)) (before end : Journal) (x : Lease) (w : Written) → length xs < 4096 → Appended before end (planned before clock xs) x w → Stands clock xs before end x
 stood clock xs before end x w room a then on r =
-    subst (λ (d : Device). Ready 4096 (length xs) then d (cursor_of end) (set-in x (table_in xs)) × (is_found (chosen 4096 d) ≡ true)) (sym a.device)
-    (subst (λ (v : Cursor). Ready 4096 (length xs) then (perform (writes (planned before clock xs) x) (places_of before)) v (set-in x (table_in xs)) × (is_found (chosen 4096 (perform (writes (planned before clock xs) x) (places_of before))) ≡ true)) (sym a.cursor)
-    (append-stands 4096 (length xs) clock then (places_of before) (cursor_of before) (table_in xs) x room on r))
+    subst (λ (d : Device). Ready 4096 (length xs) then d (cursor_of end) (set_in x (table_in xs)) × (is_found (chosen 4096 d) ≡ true)) (sym a.device)
+    (subst (λ (v : Cursor). Ready 4096 (length xs) then (perform (writes (planned before clock xs) x) (places_of before)) v (set_in x (table_in xs)) × (is_found (chosen 4096 (perform (writes (planned before clock xs) x) (places_of before))) ≡ true)) (sym a.cursor)
+    (append_stands 4096 (length xs) clock then (places_of before) (cursor_of before) (table_in xs) x room on r))
 
 -- the answer of either way, as the plan has it
 pub record Answered (clock : ℕ) (xs : List (Option Lease)) (before end : Journal) (x : Lease) (r : Result Written Fault) : Type 0 where

@@ -9,25 +9,25 @@ use Rattle.journal.specs.Crash.{Damaged}
 use Rattle.journal.specs.Laws.{ChoiceTells, Begun, Settled}
 use Rattle.journal.proofs.Reading.{reads-is, begun_first, begun-reads, begun-whole, begun-below}
 
-sides-differ : Row0 ≡ Row1 → ⊥
-sides-differ e = let z : ◌≡◌ {A = ℕ} 0 1 = cc in omega arith
+sides_differ : Row0 ≡ Row1 → ⊥
+sides_differ e = let z : ◌≡◌ {A = ℕ} 0 1 = cc in omega arith
 
-newer-both : (a b h : Bool) → a ≡ true → b ≡ true → newer_of a b h ≡ cond h Row1 Row0
-newer-both true true true p q = refl
-newer-both true true false p q = refl
-newer-both true false h p q = absurd (both_ways _ refl q)
-newer-both false b h p q = absurd (both_ways _ refl p)
+newer_both : (a b h : Bool) → a ≡ true → b ≡ true → newer_of a b h ≡ cond h Row1 Row0
+newer_both true true true p q = refl
+newer_both true true false p q = refl
+newer_both true false h p q = absurd (both_ways _ refl q)
+newer_both false b h p q = absurd (both_ways _ refl p)
 
 whole-some : (R : ℕ) (row : Row) → whole R row ≡ true → leb 1 (reads row R) ≡ true
 whole-some R row w = (and_parts (leb 1 (reads row R)) (leb (base_of (row 0)) (reads row R)) w).0
 
 newer-whole : (R : ℕ) (d : Device) → whole R (d Row0) ≡ true → whole R (d Row1) ≡ true → newer R d ≡ cond (ltb (first (d Row0)) (first (d Row1))) Row1 Row0
-newer-whole R d w v = newer-both (leb 1 (reads (d Row0) R)) (leb 1 (reads (d Row1) R)) (ltb (first (d Row0)) (first (d Row1))) (whole-some R (d Row0) w) (whole-some R (d Row1) v)
+newer-whole R d w v = newer_both (leb 1 (reads (d Row0) R)) (leb 1 (reads (d Row1) R)) (ltb (first (d Row0)) (first (d Row1))) (whole-some R (d Row0) w) (whole-some R (d Row1) v)
 
 -- two rows that are whole: the newer has the higher first sequence number
-older-first : (R : ℕ) (d : Device) (s : Side) → whole R (d s) ≡ true → whole R (d (other s)) ≡ true → first (d (other s)) < first (d s) → newer R d ≡ other s → ⊥
-older-first R d Row0 w v l e = sides-differ (sym (newer-whole R d w v ∙ cond-false _ _ _ (le-ltb (first (d Row0)) (first (d Row1)) (omega arith))) ∙ e)
-older-first R d Row1 w v l e = sides-differ (sym e ∙ newer-whole R d v w ∙ cond-true _ _ _ (lt-ltb (first (d Row0)) (first (d Row1)) l))
+older_first : (R : ℕ) (d : Device) (s : Side) → whole R (d s) ≡ true → whole R (d (other s)) ≡ true → first (d (other s)) < first (d s) → newer R d ≡ other s → ⊥
+older_first R d Row0 w v l e = sides_differ (sym (newer-whole R d w v ∙ cond-false _ _ _ (le-ltb (first (d Row0)) (first (d Row1)) (omega arith))) ∙ e)
+older_first R d Row1 w v l e = sides_differ (sym e ∙ newer-whole R d v w ∙ cond-true _ _ _ (lt-ltb (first (d Row0)) (first (d Row1)) l))
 
 choose-found : (R : ℕ) (d : Device) (s v : Side) → whole R (d s) ≡ true → (v ≡ other s → whole R (d (other s)) ≡ false) → choose R d v ≡ Found s
 choose-found R d Row0 Row0 w h = cond-true _ _ _ w
@@ -38,7 +38,7 @@ choose-found R d Row1 Row1 w h = cond-true _ _ _ w
 pub chosen-newest : (R : ℕ) (d : Device) (s : Side) → whole R (d s) ≡ true → (whole R (d (other s)) ≡ true → first (d (other s)) < first (d s)) → chosen R d ≡ Found s
 chosen-newest R d s w o =
     choose-found R d s (newer R d) w
-    (λ e. elim (cases_Bool (whole R (d (other s)))) [ inl v ↦ absurd (older-first R d s w v (o v) e) | inr v ↦ v ])
+    (λ e. elim (cases_Bool (whole R (d (other s)))) [ inl v ↦ absurd (older_first R d s w v (o v) e) | inr v ↦ v ])
 
 -- what a settled device gives
 module _ (R : ℕ) (d : Device) (s : Side) (n f b : ℕ) (t : Settled R d s n f b) where
@@ -63,22 +63,22 @@ module _ (R : ℕ) (d : Device) (h : Damaged R d) where
   tableless : (v : Side) → choose R d v ≡ cond (blank R d) New Lost
   tableless v = cond-false _ _ _ (h v) ∙ cond-false _ _ _ (h (other v))
 
-  pub damaged-found : is_found (chosen R d) ≡ false
-  damaged-found = ap is_found (tableless (newer R d)) ∙ go (blank R d)
+  pub damaged_found : is_found (chosen R d) ≡ false
+  damaged_found = ap is_found (tableless (newer R d)) ∙ go (blank R d)
     where
       go : (b : Bool) → is_found (cond b New Lost) ≡ false
       go true = refl
       go false = refl
 
-  pub damaged-leases : leases R d ≡ empty
-  damaged-leases = ap (leases_at R d) (tableless (newer R d)) ∙ go (blank R d)
+  pub damaged_leases : leases R d ≡ empty
+  damaged_leases = ap (leases_at R d) (tableless (newer R d)) ∙ go (blank R d)
     where
       go : (b : Bool) → leases_at R d (cond b New Lost) ≡ empty
       go true = refl
       go false = refl
 
-  pub damaged-cursor : cursor R d ≡ fresh R (high R d)
-  damaged-cursor = ap (cursor_at R d) (tableless (newer R d)) ∙ go (blank R d)
+  pub damaged_cursor : cursor R d ≡ fresh R (high R d)
+  damaged_cursor = ap (cursor_at R d) (tableless (newer R d)) ∙ go (blank R d)
     where
       go : (b : Bool) → cursor_at R d (cond b New Lost) ≡ fresh R (high R d)
       go true = refl
@@ -137,16 +137,16 @@ choose-none true b x y c e = absurd (both_ways _ e refl)
 choose-none false true x y c e = absurd (both_ways _ e refl)
 choose-none false false x y c e = (refl, refl)
 
-both-sides : (P : Side → Type 0) (v : Side) → P v → P (other v) → (s : Side) → P s
-both-sides P Row0 p q Row0 = p
-both-sides P Row0 p q Row1 = q
-both-sides P Row1 p q Row0 = q
-both-sides P Row1 p q Row1 = p
+both_sides : (P : Side → Type 0) (v : Side) → P v → P (other v) → (s : Side) → P s
+both_sides P Row0 p q Row0 = p
+both_sides P Row0 p q Row1 = q
+both_sides P Row1 p q Row0 = q
+both_sides P Row1 p q Row1 = p
 
 no_table : (R : ℕ) (d : Device) → is_found (chosen R d) ≡ false → Damaged R d
 no_table R d e =
     let z : (whole R (d (newer R d)) ≡ false) × (whole R (d (other (newer R d))) ≡ false) = choose-none (whole R (d (newer R d))) (whole R (d (other (newer R d)))) (newer R d) (other (newer R d)) (cond (blank R d) New Lost) e in
-    both-sides (λ s. whole R (d s) ≡ false) (newer R d) z.0 z.1
+    both_sides (λ s. whole R (d s) ≡ false) (newer R d) z.0 z.1
 
 blank-place : (p : Place) → is_blank p ≡ true → p ≡ Blank
 blank-place Blank e = refl
@@ -171,9 +171,9 @@ blank-all row (suc n) h = and_from (blank_row row n) (is_blank (row n)) (blank-a
 lost-new : Lost ≡ New → ⊥
 lost-new e = let z : ◌≡◌ {A = ℕ} 0 1 = cc in omega arith
 
-only-blank : (b : Bool) → cond b New Lost ≡ New → b ≡ true
-only-blank true e = refl
-only-blank false e = absurd (lost-new e)
+only_blank : (b : Bool) → cond b New Lost ≡ New → b ≡ true
+only_blank true e = refl
+only_blank false e = absurd (lost-new e)
 
 pub choice-tells : ChoiceTells
 choice-tells R d =
@@ -193,5 +193,5 @@ choice-tells R d =
     fresh-each : chosen R d ≡ New → (s : Side) (k : ℕ) → k < R → d s k ≡ Blank
     fresh-each e =
         let w : Damaged R d = no_table R d (ap is_found e) in
-        let b : (blank_row (d Row0) R ≡ true) × (blank_row (d Row1) R ≡ true) = and_parts (blank_row (d Row0) R) (blank_row (d Row1) R) (only-blank (blank R d) (sym (tableless R d w (newer R d)) ∙ e)) in
-        both-sides (λ s. (k : ℕ) → k < R → d s k ≡ Blank) Row0 (blank-each (d Row0) R b.0) (blank-each (d Row1) R b.1)
+        let b : (blank_row (d Row0) R ≡ true) × (blank_row (d Row1) R ≡ true) = and_parts (blank_row (d Row0) R) (blank_row (d Row1) R) (only_blank (blank R d) (sym (tableless R d w (newer R d)) ∙ e)) in
+        both_sides (λ s. (k : ℕ) → k < R → d s k ≡ Blank) Row0 (blank-each (d Row0) R b.0) (blank-each (d Row1) R b.1)

@@ -9,9 +9,9 @@ use Rattle.std.proofs.lemmas.Slice.{drop-append-drop}
 use Rattle.std.specs.List.{AllByRecursion, between}
 use Rattle.std.proofs.lemmas.Bool.{cond-true, cond-false, and_from, and_left, and_right, eq-eqb, ne_eqb}
 use Rattle.checksum.specs.Crc.{crc}
-use Rattle.checksum.specs.Burst.{Bytes, Has-32-bits}
-use Rattle.checksum.proofs.Burst.{has-32-bits}
-use Rattle.checksum.proofs.Crc.{zeros-do-not-fit}
+use Rattle.checksum.specs.Burst.{Bytes, Has32Bits}
+use Rattle.checksum.proofs.Burst.{has_32_bits}
+use Rattle.checksum.proofs.Crc.{zeros_do_not_fit}
 use Rattle.journal.specs.declared.record.Record.{Record}
 use Rattle.journal.specs.Bytes.{digits, number, summed, encoded, fields_of, fits, decoded, zeros, place_from, Fits, RoundTrip, ZerosAreBlank}
 
@@ -20,9 +20,9 @@ pub decoded-short : (bs : List ℕ) → (length bs ≡ 28 → ⊥) → decoded b
 unfolding decoded
 decoded-short bs h = cond-false (fits bs) (Some (fields_of bs)) None (and_left (eqb (length bs) 28) (eqb (crc (take 24 bs)) (number 4 (between 24 28 bs))) (ne_eqb (length bs) 28 h))
 
-pub decoded-unfit : (bs : List ℕ) → (crc (take 24 bs) ≡ number 4 (between 24 28 bs) → ⊥) → decoded bs ≡ None
+pub decoded_unfit : (bs : List ℕ) → (crc (take 24 bs) ≡ number 4 (between 24 28 bs) → ⊥) → decoded bs ≡ None
 unfolding decoded
-decoded-unfit bs h = cond-false (fits bs) (Some (fields_of bs)) None (and_right (eqb (length bs) 28) (eqb (crc (take 24 bs)) (number 4 (between 24 28 bs))) (ne_eqb (crc (take 24 bs)) (number 4 (between 24 28 bs)) h))
+decoded_unfit bs h = cond-false (fits bs) (Some (fields_of bs)) None (and_right (eqb (length bs) 28) (eqb (crc (take 24 bs)) (number 4 (between 24 28 bs))) (ne_eqb (crc (take 24 bs)) (number 4 (between 24 28 bs)) h))
 
 pub decoded-fit : (bs : List ℕ) → length bs ≡ 28 → crc (take 24 bs) ≡ number 4 (between 24 28 bs) → decoded bs ≡ Some (fields_of bs)
 unfolding decoded
@@ -37,10 +37,10 @@ length_digits : (w n : ℕ) → length (digits w n) ≡ w
 length_digits zero n = refl
 length_digits (suc w) n = ap suc (length_digits w n)
 
-valued-digits : (w n : ℕ) → valued (digits w n) ≡ n % 256 ^ w
-valued-digits zero n = sym (mod-one n)
-valued-digits (suc w) n =
-    ap₂ (λ (k v : ℕ). (n / 256 ^ w % 256) * 256 ^ k + v) (length_digits w n) (valued-digits w n)
+valued_digits : (w n : ℕ) → valued (digits w n) ≡ n % 256 ^ w
+valued_digits zero n = sym (mod-one n)
+valued_digits (suc w) n =
+    ap₂ (λ (k v : ℕ). (n / 256 ^ w % 256) * 256 ^ k + v) (length_digits w n) (valued_digits w n)
     ∙ sym (ap (λ (m : ℕ). n % m) (pow-succ' 256 w) ∙ mod-mul n {m = 256} {c = 256 ^ w} (omega arith) (one-le-pow w 256 (omega arith)))
 
 digits-bytes : (w n : ℕ) → AllByRecursion (λ b. b < 256) (digits w n)
@@ -48,13 +48,13 @@ digits-bytes zero n = tt
 digits-bytes (suc w) n = (mod-lt (n / 256 ^ w) (omega arith), digits-bytes w n)
 
 back2 : (n : ℕ) → n < 2 ^ 16 → number 2 (digits 2 n) ≡ n
-back2 n l = valued-digits 2 n ∙ mod-eq_of_lt l
+back2 n l = valued_digits 2 n ∙ mod-eq_of_lt l
 
 back4 : (n : ℕ) → n < 2 ^ 32 → number 4 (digits 4 n) ≡ n
-back4 n l = valued-digits 4 n ∙ mod-eq_of_lt l
+back4 n l = valued_digits 4 n ∙ mod-eq_of_lt l
 
 back8 : (n : ℕ) → n < 2 ^ 64 → number 8 (digits 8 n) ≡ n
-back8 n l = valued-digits 8 n ∙ mod-eq_of_lt l
+back8 n l = valued_digits 8 n ∙ mod-eq_of_lt l
 
 low : (n : ℕ) → n % 256 ≡ n / 256 ^ 0 % 256
 low n = ap (λ (m : ℕ). m % 256) (sym (div-one n))
@@ -87,9 +87,9 @@ further d front s t bs cs at w e same =
     }
 
 -- records
-pub length-summed : (r : Record) → length (summed r) ≡ 24
+pub length_summed : (r : Record) → length (summed r) ≡ 24
 unfolding summed
-length-summed r = refl
+length_summed r = refl
 
 summed-bytes : (r : Record) → Bytes (summed r)
 unfolding summed
@@ -105,8 +105,8 @@ summed-bytes r =
     (All-append P (digits 4 r.lease.client) e (digits-bytes 4 r.lease.client) (digits-bytes 8 r.lease.expires))))
 
 sum_fits : (r : Record) → crc (summed r) < 2 ^ 32
-unfolding Has-32-bits
-sum_fits r = has-32-bits (summed r) (summed-bytes r)
+unfolding Has32Bits
+sum_fits r = has_32_bits (summed r) (summed-bytes r)
 
 fields_back : (r : Record) (sum : List ℕ) → Fits r → fields_of (summed r ++ sum) ≡ r
 unfolding summed
@@ -125,16 +125,16 @@ fields_back r sum f =
     made : (q b a c e : ℕ) → Record
     made q b a c e = record { sequence = q; base = b; lease = record { address = a; client = c; expires = e } }
 
-sum-part : (bs : List ℕ) (n : ℕ) → length bs ≡ 24 → between 24 28 (bs ++ digits 4 n) ≡ digits 4 n
-sum-part bs n l = ap (take 4) (drop_at bs (digits 4 n) 24 l)
+sum_part : (bs : List ℕ) (n : ℕ) → length bs ≡ 24 → between 24 28 (bs ++ digits 4 n) ≡ digits 4 n
+sum_part bs n l = ap (take 4) (drop_at bs (digits 4 n) 24 l)
 
 pub round_trip : RoundTrip
 round_trip r f =
-    decoded-fit (encoded r) (length-append (summed r) (digits 4 (crc (summed r))) ∙ ap (λ (k : ℕ). k + 4) (length-summed r))
-    (ap crc (take_at (summed r) (digits 4 (crc (summed r))) 24 (length-summed r)) ∙ sym (ap (number 4) (sum-part (summed r) (crc (summed r)) (length-summed r)) ∙ back4 (crc (summed r)) (sum_fits r)))
+    decoded-fit (encoded r) (length-append (summed r) (digits 4 (crc (summed r))) ∙ ap (λ (k : ℕ). k + 4) (length_summed r))
+    (ap crc (take_at (summed r) (digits 4 (crc (summed r))) 24 (length_summed r)) ∙ sym (ap (number 4) (sum_part (summed r) (crc (summed r)) (length_summed r)) ∙ back4 (crc (summed r)) (sum_fits r)))
     ∙ ap Some (fields_back r (digits 4 (crc (summed r))) f)
 
 -- zeros do not fit their sum
-pub zeros-are-blank : ZerosAreBlank
+pub zeros_are_blank : ZerosAreBlank
 unfolding zeros
-zeros-are-blank = ap (λ (o : Option Record). place_from o (zeros (replicate 28 0))) (decoded-unfit (replicate 28 0) zeros-do-not-fit)
+zeros_are_blank = ap (λ (o : Option Record). place_from o (zeros (replicate 28 0))) (decoded_unfit (replicate 28 0) zeros_do_not_fit)

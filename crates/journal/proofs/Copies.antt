@@ -50,12 +50,12 @@ module _ (c : Cursor) (bs₀ : List (List ℕ)) (d₀ : Device) (above : c.first
             (subst (λ (v : Cursor). decoded (encoded (next_record v x)) ≡ Some (next_record v x)) w.cursor g));
       }
 
-  maybe-copied : (xs : List Lease) (o : Option Lease) (bs : List (List ℕ)) (d : Device) (e : Cursor) (bs' : List (List ℕ)) (d' : Device) (e' : Cursor) → Copied c bs₀ d₀ xs bs d e →
+  maybe_copied : (xs : List Lease) (o : Option Lease) (bs : List (List ℕ)) (d : Device) (e : Cursor) (bs' : List (List ℕ)) (d' : Device) (e' : Cursor) → Copied c bs₀ d₀ xs bs d e →
       LegibleWith o e → bs' ≡ stored_with o e bs → d' ≡ put_with o e d → e' ≡ went_with o e → Copied c bs₀ d₀ (added xs o) bs' d' e'
-  maybe-copied xs None bs d e bs' d' e' w g p q r = record { bytes = p ∙ w.bytes; device = q ∙ w.device; cursor = r ∙ w.cursor; legible = w.legible }
-  maybe-copied xs (Some x) bs d e bs' d' e' w g p q r = one-copied xs x bs d e bs' d' e' w g p q r
+  maybe_copied xs None bs d e bs' d' e' w g p q r = record { bytes = p ∙ w.bytes; device = q ∙ w.device; cursor = r ∙ w.cursor; legible = w.legible }
+  maybe_copied xs (Some x) bs d e bs' d' e' w g p q r = one-copied xs x bs d e bs' d' e' w g p q r
 
   pub more-copied : (now : ℕ) (t : Table) (i : ℕ) (o : Option Lease) (bs : List (List ℕ)) (d : Device) (e : Cursor) (bs' : List (List ℕ)) (d' : Device) (e' : Cursor) → o ≡ kept_of now (t i) →
       Copied c bs₀ d₀ (keeping now t i) bs d e → LegibleWith o e → bs' ≡ stored_with o e bs → d' ≡ put_with o e d → e' ≡ went_with o e → Copied c bs₀ d₀ (keeping now t (i + 1)) bs' d' e'
   more-copied now t i o bs d e bs' d' e' k w g p q r =
-      subst (λ (xs : List Lease). Copied c bs₀ d₀ xs bs' d' e') (ap (added (keeping now t i)) k ∙ sym (keeping-more now t i)) (maybe-copied (keeping now t i) o bs d e bs' d' e' w g p q r)
+      subst (λ (xs : List Lease). Copied c bs₀ d₀ xs bs' d' e') (ap (added (keeping now t i)) k ∙ sym (keeping-more now t i)) (maybe_copied (keeping now t i) o bs d e bs' d' e' w g p q r)

@@ -15,16 +15,16 @@ use Rattle.journal.specs.Crash.{Cut, Untouched, Whole, Tears, Zeroes, cut_write,
 use Rattle.journal.specs.Image.{index, device_of, stored}
 use Rattle.journal.specs.Memory.{Legible, Appended}
 use Rattle.journal.specs.Durable.{durable, LeftByCut, CutFile}
-use Rattle.journal.proofs.Progress.{length-numbered}
+use Rattle.journal.proofs.Progress.{length_numbered}
 use Rattle.journal.proofs.Stores.{nth, set-place, device-set, numbered-push, stored-push}
 
-index-suc : (s : Side) (k : ℕ) → index s (suc k) ≡ suc (index s k)
-index-suc Row0 k = refl
-index-suc Row1 k = omega arith
+index_suc : (s : Side) (k : ℕ) → index s (suc k) ≡ suc (index s k)
+index_suc Row0 k = refl
+index_suc Row1 k = omega arith
 
-index-add : (s : Side) (k j : ℕ) → index s (k + j) ≡ index s k + j
-index-add Row0 k j = refl
-index-add Row1 k j = omega arith
+index_add : (s : Side) (k j : ℕ) → index s (k + j) ≡ index s k + j
+index_add Row0 k j = refl
+index_add Row1 k j = omega arith
 
 index_below : (s : Side) (k : ℕ) → k < 4096 → index s k < 8192
 index_below Row0 k l = omega arith
@@ -42,18 +42,18 @@ cut-none [] c d = refl
 cut-none (w ∷ ws) c d = cut-none ws c (put w.side w.place (Holds w.what) d)
 
 module _ (s : Side) (b : ℕ) where
-  numbered-append : (k q : ℕ) (xs ys : List Lease) → numbered s k q b (xs ++ ys) ≡ numbered s k q b xs ++ numbered s (k + length xs) (q + length xs) b ys
+  numbered_append : (k q : ℕ) (xs ys : List Lease) → numbered s k q b (xs ++ ys) ≡ numbered s k q b xs ++ numbered s (k + length xs) (q + length xs) b ys
   unfolding numbered
-  numbered-append k q [] ys = ap₂ (λ (i j : ℕ). numbered s i j b ys) {x = k} {y = k + 0} {u = q} {v = q + 0} (omega arith) (omega arith)
-  numbered-append k q (x ∷ xs) ys =
+  numbered_append k q [] ys = ap₂ (λ (i j : ℕ). numbered s i j b ys) {x = k} {y = k + 0} {u = q} {v = q + 0} (omega arith) (omega arith)
+  numbered_append k q (x ∷ xs) ys =
       ap (λ (ws : List Write). nth s k q b x ∷ ws)
-      (numbered-append (suc k) (suc q) xs ys
+      (numbered_append (suc k) (suc q) xs ys
       ∙ ap₂ (λ (i j : ℕ). numbered s (suc k) (suc q) b xs ++ numbered s i j b ys) {x = suc k + length xs} {y = k + suc (length xs)} {u = suc q + length xs} {v = q + suc (length xs)} (omega arith) (omega arith))
 
-  length-stored : (k q : ℕ) (xs : List Lease) (bs : List (List ℕ)) → length (stored (numbered s k q b xs) bs) ≡ length bs
+  length_stored : (k q : ℕ) (xs : List Lease) (bs : List (List ℕ)) → length (stored (numbered s k q b xs) bs) ≡ length bs
   unfolding numbered stored
-  length-stored k q [] bs = refl
-  length-stored k q (x ∷ xs) bs = length-stored (suc k) (suc q) xs (set bs (index s k) (encoded (record { sequence = q; base = b; lease = x }))) ∙ length-set bs (index s k) (encoded (record { sequence = q; base = b; lease = x }))
+  length_stored k q [] bs = refl
+  length_stored k q (x ∷ xs) bs = length_stored (suc k) (suc q) xs (set bs (index s k) (encoded (record { sequence = q; base = b; lease = x }))) ∙ length-set bs (index s k) (encoded (record { sequence = q; base = b; lease = x }))
 
   device-stored : (k q : ℕ) (xs : List Lease) (bs : List (List ℕ)) → AllByRecursion Legible (numbered s k q b xs) → k + length xs ≤ 4096 → length bs ≡ 8192 → device_of (stored (numbered s k q b xs) bs) ≡ perform (numbered s k q b xs) (device_of bs)
   unfolding numbered stored perform
@@ -69,7 +69,7 @@ module _ (s : Side) (b : ℕ) where
   stored-below k q [] bs i l = refl
   stored-below k q (x ∷ xs) bs i l =
       let r : Record = record { sequence = q; base = b; lease = x } in
-      let z : index s (suc k) ≡ suc (index s k) = index-suc s k in
+      let z : index s (suc k) ≡ suc (index s k) = index_suc s k in
       stored-below (suc k) (suc q) xs (set bs (index s k) (encoded r)) i (omega arith) ∙ get_or-set_other bs (index s k) i (encoded r) [] (omega arith)
 
   stored_at : (x₀ : Lease) (k q : ℕ) (xs : List Lease) (bs : List (List ℕ)) (j : ℕ) → j < length xs → k + length xs ≤ 4096 → length bs ≡ 8192 →
@@ -78,7 +78,7 @@ module _ (s : Side) (b : ℕ) where
   stored_at x₀ k q [] bs j l m n = absurd (omega arith)
   stored_at x₀ k q (x ∷ xs) bs zero l m n =
       let r : Record = record { sequence = q; base = b; lease = x } in
-      let z : index s (suc k) ≡ suc (index s k) = index-suc s k in
+      let z : index s (suc k) ≡ suc (index s k) = index_suc s k in
       let y : index s k < 8192 = index_below s k (omega arith) in
       stored-below (suc k) (suc q) xs (set bs (index s k) (encoded r)) (index s k + 0) (omega arith)
       ∙ ap (λ (i : ℕ). get_or (set bs (index s k) (encoded r)) i []) {x = index s k + 0} {y = index s k} (omega arith)
@@ -86,7 +86,7 @@ module _ (s : Side) (b : ℕ) where
       ∙ ap (λ (i : ℕ). encoded (record { sequence = i; base = b; lease = x })) {x = q} {y = q + 0} (omega arith)
   stored_at x₀ k q (x ∷ xs) bs (suc j) l m n =
       let r : Record = record { sequence = q; base = b; lease = x } in
-      let z : index s (suc k) ≡ suc (index s k) = index-suc s k in
+      let z : index s (suc k) ≡ suc (index s k) = index_suc s k in
       ap (λ (i : ℕ). get_or (stored (numbered s (suc k) (suc q) b xs) (set bs (index s k) (encoded r))) i []) {x = index s k + suc j} {y = index s (suc k) + j} (omega arith)
       ∙ stored_at x₀ (suc k) (suc q) xs (set bs (index s k) (encoded r)) j (omega arith) (omega arith) (length-set bs (index s k) (encoded r) ∙ n)
       ∙ ap (λ (i : ℕ). encoded (record { sequence = i; base = b; lease = get_or xs j x₀ })) {x = suc q + j} {y = q + suc j} (omega arith)
@@ -114,42 +114,42 @@ module _ (s : Side) (b : ℕ) where
         ∙ ap (λ (ws : List Write). stored ws bs) (numbered-push s k q b (take j xs) y)
         ∙ stored-push (numbered s k q b (take j xs)) (nth s (k + length (take j xs)) (q + length (take j xs)) b y) bs
         ∙ ap (λ (i : ℕ). set (stored (numbered s k q b (take j xs)) bs) (index s (k + i)) (encoded (record { sequence = q + i; base = b; lease = y }))) n
-        ∙ ap (λ (i : ℕ). set (stored (numbered s k q b (take j xs)) bs) i (encoded (record { sequence = q + j; base = b; lease = y }))) (index-add s k j))
+        ∙ ap (λ (i : ℕ). set (stored (numbered s k q b (take j xs)) bs) i (encoded (record { sequence = q + j; base = b; lease = y }))) (index_add s k j))
 
-    front-legible : (j : ℕ) → AllByRecursion Legible (numbered s k q b (take j xs))
-    front-legible j = go (numbered s k q b (take j xs)) (numbered s (k + length (take j xs)) (q + length (take j xs)) b (drop j xs))
-        (subst (AllByRecursion Legible) (ap (numbered s k q b) (sym (take-append-drop j xs)) ∙ numbered-append k q (take j xs) (drop j xs)) legible)
+    front_legible : (j : ℕ) → AllByRecursion Legible (numbered s k q b (take j xs))
+    front_legible j = go (numbered s k q b (take j xs)) (numbered s (k + length (take j xs)) (q + length (take j xs)) b (drop j xs))
+        (subst (AllByRecursion Legible) (ap (numbered s k q b) (sym (take-append-drop j xs)) ∙ numbered_append k q (take j xs) (drop j xs)) legible)
       where
         go : (us vs : List Write) → AllByRecursion Legible (us ++ vs) → AllByRecursion Legible us
         go [] vs h = tt
         go (u ∷ us) vs h = (h.0, go us vs h.1)
 
-    front-device : (j : ℕ) → j ≤ length xs → device_of (durable (index s k) j memory bs) ≡ perform (numbered s k q b (take j xs)) (device_of bs)
-    front-device j l =
+    front_device : (j : ℕ) → j ≤ length xs → device_of (durable (index s k) j memory bs) ≡ perform (numbered s k q b (take j xs)) (device_of bs)
+    front_device j l =
         let n : length (take j xs) ≡ j = length-take-le j xs l in
-        ap device_of (durable-is j l) ∙ device-stored k q (take j xs) bs (front-legible j) (omega arith) size
+        ap device_of (durable-is j l) ∙ device-stored k q (take j xs) bs (front_legible j) (omega arith) size
 
-    cut-front : (j : ℕ) (c : Cut) → j < length xs → cut_at j c (numbered s k q b xs) (device_of bs) ≡ cut_write c (nth s (k + j) (q + j) b (get_or xs j x₀)) (perform (numbered s k q b (take j xs)) (device_of bs))
+    cut_front : (j : ℕ) (c : Cut) → j < length xs → cut_at j c (numbered s k q b xs) (device_of bs) ≡ cut_write c (nth s (k + j) (q + j) b (get_or xs j x₀)) (perform (numbered s k q b (take j xs)) (device_of bs))
     unfolding numbered
-    cut-front j c l =
+    cut_front j c l =
         let y : Lease = get_or xs j x₀ in
         let n : length (take j xs) ≡ j = length-take-le j xs (omega arith) in
         let ws : List Write = numbered s k q b (take j xs) in
-        let m : length ws ≡ j = length-numbered s k q b (take j xs) ∙ n in
+        let m : length ws ≡ j = length_numbered s k q b (take j xs) ∙ n in
         let e : numbered s k q b xs ≡ ws ++ (nth s (k + j) (q + j) b y ∷ numbered s (suc (k + j)) (suc (q + j)) b (drop (j + 1) xs)) =
         ap (numbered s k q b) (sym (take-append-drop j xs) ∙ ap (λ (ys : List Lease). take j xs ++ ys) (drop_more xs j x₀ l))
-        ∙ numbered-append k q (take j xs) (y ∷ drop (j + 1) xs)
+        ∙ numbered_append k q (take j xs) (y ∷ drop (j + 1) xs)
         ∙ ap (λ (i : ℕ). ws ++ numbered s (k + i) (q + i) b (y ∷ drop (j + 1) xs)) n in
         ap₂ (λ (i : ℕ) (vs : List Write). cut_at i c vs (device_of bs)) (sym m) e ∙ cut-split ws (numbered s (suc (k + j)) (suc (q + j)) b (drop (j + 1) xs)) (nth s (k + j) (q + j) b y) c (device_of bs)
 
     between : (j : ℕ) → j ≤ length xs → device_of (durable (index s k) j memory bs) ≡ cut_at j Untouched (numbered s k q b xs) (device_of bs)
     between j l =
         elim (cases_lt j (length xs)) [
-          | inl m ↦ front-device j l ∙ sym (cut-front j Untouched m)
+          | inl m ↦ front_device j l ∙ sym (cut_front j Untouched m)
           | inr m ↦
               let e : j ≡ length xs = omega arith in
-              let n : length (numbered s k q b xs) ≡ length xs = length-numbered s k q b xs in
-              front-device j l ∙ ap (λ (ys : List Lease). perform (numbered s k q b ys) (device_of bs)) (take_all j xs (omega arith))
+              let n : length (numbered s k q b xs) ≡ length xs = length_numbered s k q b xs in
+              front_device j l ∙ ap (λ (ys : List Lease). perform (numbered s k q b ys) (device_of bs)) (take_all j xs (omega arith))
               ∙ sym (ap (λ (i : ℕ). cut_at i Untouched (numbered s k q b xs) (device_of bs)) {x = j} {y = length (numbered s k q b xs)} (omega arith) ∙ cut-none (numbered s k q b xs) Untouched (device_of bs))
         ]
 
@@ -159,23 +159,23 @@ module _ (s : Side) (b : ℕ) where
       file = durable (index s k) j memory bs
 
       file-size : length file ≡ 8192
-      file-size = ap length (durable-is j (omega arith)) ∙ length-stored k q (take j xs) bs ∙ size
+      file-size = ap length (durable-is j (omega arith)) ∙ length_stored k q (take j xs) bs ∙ size
 
       written : (left : List ℕ) (p : Place) → place_of left ≡ p → device_of (set file (index s k + j) left) ≡ put s (k + j) p (perform (numbered s k q b (take j xs)) (device_of bs))
       written left p e =
-          ap (λ (i : ℕ). device_of (set file i left)) (sym (index-add s k j)) ∙ set-place file s (k + j) left p e file-size (omega arith)
-          ∙ ap (put s (k + j) p) (front-device j (omega arith))
+          ap (λ (i : ℕ). device_of (set file i left)) (sym (index_add s k j)) ∙ set-place file s (k + j) left p e file-size (omega arith)
+          ∙ ap (put s (k + j) p) (front_device j (omega arith))
 
       unfit : (left : List ℕ) (z : Bool) → place_of left ≡ cond z Blank Torn → (c : Cut) × (device_of (set file (index s k + j) left) ≡ cut_at j c (numbered s k q b xs) (device_of bs))
-      unfit left true e = (Zeroes, written left Blank e ∙ sym (cut-front j Zeroes l))
-      unfit left false e = (Tears, written left Torn e ∙ sym (cut-front j Tears l))
+      unfit left true e = (Zeroes, written left Blank e ∙ sym (cut_front j Zeroes l))
+      unfit left false e = (Tears, written left Torn e ∙ sym (cut_front j Tears l))
 
       within : (left : List ℕ) → LeftByCut (get_or file (index s k + j) []) (get_or memory (index s k + j) []) left → (c : Cut) × (device_of (set file (index s k + j) left) ≡ cut_at j c (numbered s k q b xs) (device_of bs))
       within left (inl e) = (Untouched, ap (λ (v : List ℕ). device_of (set file (index s k + j) v)) e ∙ ap device_of (set-get_or file (index s k + j) []) ∙ between j (omega arith))
       within left (inr (inl e)) =
           let r : Record = record { sequence = q + j; base = b; lease = get_or xs j x₀ } in
           let new : left ≡ encoded r = e ∙ stored_at x₀ k q xs bs j l fit size in
-          (Whole, written left (Holds r) (ap place_of new ∙ ap (λ (o : Option Record). place_from o (zeros (encoded r))) (legible-at x₀ k q xs j l legible)) ∙ sym (cut-front j Whole l))
+          (Whole, written left (Holds r) (ap place_of new ∙ ap (λ (o : Option Record). place_from o (zeros (encoded r))) (legible-at x₀ k q xs j l legible)) ∙ sym (cut_front j Whole l))
       within left (inr (inr e)) = unfit left (zeros left) (ap (λ (o : Option Record). place_from o (zeros left)) e)
 
 -- an append's file
@@ -200,7 +200,7 @@ module _ (before end : Journal) (p : Plan) (x : Lease) (w : Written) (a : Append
   several = length-append p.copied (x ∷ [])
 
   counts : w.count ≡ length all
-  counts = a.count ∙ length-numbered p.side p.place (p.first + p.place) p.base all
+  counts = a.count ∙ length_numbered p.side p.place (p.first + p.place) p.base all
 
   moved : (P : ℕ → List (List ℕ) → Type 0) → P (index p.side p.place) (stored (writes p x) old) → P w.first (vec_items end.device)
   moved P h = subst (λ (f : ℕ). P f (vec_items end.device)) (sym a.first) (subst (P (index p.side p.place)) (sym a.bytes) h)

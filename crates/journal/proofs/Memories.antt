@@ -17,9 +17,9 @@ cursor-set rows a h r l = ap (λ (v : RowState). going (side_of a) v h) (get_or-
     going : Side → RowState → ℕ → Cursor
     going s v h = record { side = s; first = v.first; count = v.count; base = v.base; highest = h }
 
-pub cursor-counted : (rows : List RowState) (a h v : ℕ) → a < length rows → v ≡ max h ((get_or rows a unread).first + (get_or rows a unread).count) →
+pub cursor_counted : (rows : List RowState) (a h v : ℕ) → a < length rows → v ≡ max h ((get_or rows a unread).first + (get_or rows a unread).count) →
     cursor_from (set rows a (record { first = (get_or rows a unread).first; base = (get_or rows a unread).base; count = (get_or rows a unread).count + 1 })) a v ≡ went (cursor_from rows a h)
-cursor-counted rows a h v l e =
+cursor_counted rows a h v l e =
     cursor-set rows a v (record { first = (get_or rows a unread).first; base = (get_or rows a unread).base; count = (get_or rows a unread).count + 1 }) l
     ∙ ap₂ (λ (n m : ℕ). going (side_of a) (get_or rows a unread) n m) (add-one (get_or rows a unread).count) e
   where

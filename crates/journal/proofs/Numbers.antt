@@ -11,7 +11,7 @@ use Rattle.journal.specs.Crash.{Cut, Untouched, Whole, Tears, Zeroes, cut_at}
 use Rattle.journal.specs.Run.{Operation, Append, Crash, Restart, Clock, Damage, State, start, step, run, Allowed, Each}
 use Rattle.journal.specs.Laws.{Sound, Ready, Undamaged, Distinct, NoneTwice}
 use Rattle.journal.proofs.Reading.{at_same, at_other}
-use Rattle.journal.proofs.Choosing.{settled-cursor, damaged-cursor, below-high, settled-high}
+use Rattle.journal.proofs.Choosing.{settled-cursor, damaged_cursor, below-high, settled-high}
 use Rattle.journal.proofs.Runs as runs
 
 -- everything that fits is below `q`
@@ -28,8 +28,8 @@ put-cases Row1 Row0 k j p d = inr refl
 put-cases Row1 Row1 k j p d = elim (at-cases k j p (d Row1)) [ inl q ↦ inl (refl, q.0, q.1) | inr q ↦ inr q ]
 
 module _ (R : ℕ) (s : Side) (k : ℕ) where
-  put-distinct : (p : Place) (d : Device) → ((r : Record) → p ≡ Holds r → Below R d r.sequence) → Distinct R d → Distinct R (put s k p d)
-  put-distinct p d above h v w i j x y l m e f z =
+  put_distinct : (p : Place) (d : Device) → ((r : Record) → p ≡ Holds r → Below R d r.sequence) → Distinct R d → Distinct R (put s k p d)
+  put_distinct p d above h v w i j x y l m e f z =
       elim (put-cases s v k i p d) [
         | inl a ↦ elim (put-cases s w k j p d) [
           | inl b ↦ (a.0 ∙ sym b.0, a.1 ∙ sym b.1)
@@ -49,7 +49,7 @@ module _ (R : ℕ) (s : Side) (k : ℕ) where
       ]
 
   written : (q b : ℕ) (x : Lease) (d : Device) → Below R d q → Distinct R d → Distinct R (put s k (Holds (record { sequence = q; base = b; lease = x })) d)
-  written q b x d l h = put-distinct (Holds (record { sequence = q; base = b; lease = x })) d (λ r e. subst (λ (n : ℕ). Below R d n) (number q b x r e) l) h
+  written q b x d l h = put_distinct (Holds (record { sequence = q; base = b; lease = x })) d (λ r e. subst (λ (n : ℕ). Below R d n) (number q b x r e) l) h
     where
       number : (q b : ℕ) (x : Lease) (r : Record) → Holds (record { sequence = q; base = b; lease = x }) ≡ Holds r → q ≡ r.sequence
       number q b x r e = ap height e
@@ -69,8 +69,8 @@ unfolding numbered cut_at
 cut R s k q b [] d i c l h = h
 cut R s k q b (x ∷ xs) d zero Untouched l h = h
 cut R s k q b (x ∷ xs) d zero Whole l h = written R s k q b x d l h
-cut R s k q b (x ∷ xs) d zero Tears l h = put-distinct R s k Torn d (λ r e. absurd (no_record Torn r (inl refl) e)) h
-cut R s k q b (x ∷ xs) d zero Zeroes l h = put-distinct R s k Blank d (λ r e. absurd (no_record Blank r (inr refl) e)) h
+cut R s k q b (x ∷ xs) d zero Tears l h = put_distinct R s k Torn d (λ r e. absurd (no_record Torn r (inl refl) e)) h
+cut R s k q b (x ∷ xs) d zero Zeroes l h = put_distinct R s k Blank d (λ r e. absurd (no_record Blank r (inr refl) e)) h
 cut R s k q b (x ∷ xs) d (suc i) c l h =
     cut R s (suc k) (suc q) b xs _ i c (put-below R s k q (Holds (record { sequence = q; base = b; lease = x })) d (omega arith) l) (written R s k q b x d l h)
 
@@ -86,7 +86,7 @@ above R n then now d c u r = go r.sound
 
     go : Sound R d → Below R d ((plan R n now c u).first + (plan R n now c u).place)
     go (inl w) =
-        subst (λ (c : Cursor). Below R d ((plan R n now c u).first + (plan R n now c u).place)) (sym (r.same ∙ damaged-cursor R d w))
+        subst (λ (c : Cursor). Below R d ((plan R n now c u).first + (plan R n now c u).place)) (sym (r.same ∙ damaged_cursor R d w))
         (cond_both (ltb R R) _ _ (λ (p : Plan). Below R d (p.first + p.place)) (λ e. absurd (let z : R < R = ltb-true R R e in omega arith)) (λ e. begins Row0 [] 0))
     go (inr (s, k, f, b, t)) =
         subst (λ (c : Cursor). Below R d ((plan R n now c u).first + (plan R n now c u).place)) (sym (r.same ∙ settled-cursor R d s k f b t (high R d) refl))

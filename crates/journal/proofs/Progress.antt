@@ -8,7 +8,7 @@ use Rattle.journal.specs.Device.{Side, Row0, Row1, other, Device}
 use Rattle.journal.specs.Append.{at, put, numbered, perform}
 use Rattle.journal.specs.Crash.{Cut, Untouched, Whole, Tears, Zeroes, cut_at, done}
 use Rattle.journal.specs.Laws.{Begun}
-use Rattle.journal.proofs.Reading.{at_same, begun_more, begun-harmed, table_kept, table_more}
+use Rattle.journal.proofs.Reading.{at_same, begun_more, begun_harmed, table_kept, table_more}
 use Rattle.journal.proofs.Tables.{laid, laid_same}
 
 pub put-here : (s : Side) (k : ℕ) (p : Place) (d : Device) → put s k p d s ≡ at k p (d s)
@@ -19,16 +19,16 @@ pub put_rest : (s : Side) (k : ℕ) (p : Place) (d : Device) → put s k p d (ot
 put_rest Row0 k p d = refl
 put_rest Row1 k p d = refl
 
-pub length-numbered : (s : Side) (k q b : ℕ) (xs : List Lease) → length (numbered s k q b xs) ≡ length xs
+pub length_numbered : (s : Side) (k q b : ℕ) (xs : List Lease) → length (numbered s k q b xs) ≡ length xs
 unfolding numbered
-length-numbered s k q b [] = refl
-length-numbered s k q b (x ∷ xs) = ap suc (length-numbered s (suc k) (suc q) b xs)
+length_numbered s k q b [] = refl
+length_numbered s k q b (x ∷ xs) = ap suc (length_numbered s (suc k) (suc q) b xs)
 
-done-suc : (i : ℕ) (c : Cut) → done (suc i) c ≡ suc (done i c)
-done-suc i Untouched = refl
-done-suc i Whole = refl
-done-suc i Tears = refl
-done-suc i Zeroes = refl
+done_suc : (i : ℕ) (c : Cut) → done (suc i) c ≡ suc (done i c)
+done_suc i Untouched = refl
+done_suc i Whole = refl
+done_suc i Tears = refl
+done_suc i Zeroes = refl
 
 -- of the leases `xs`, the first `j` are written to `d`'s side `s` from place `k` on, which gave `e`
 pub record Progress (R : ℕ) (d e : Device) (s : Side) (k f b : ℕ) (xs : List Lease) (j : ℕ) : Type 0 where
@@ -51,7 +51,7 @@ module _ (R : ℕ) (s : Side) (f b : ℕ) where
   harmed d k xs p z h g =
       record {
         begun = subst (λ (m : ℕ). Begun R (put s k p d s) m f b) {x = k} {y = k + 0} (omega arith)
-            (subst (λ (row : Row). Begun R row k f b) (sym (put-here s k p d)) (begun-harmed R (d s) k f b g p z));
+            (subst (λ (row : Row). Begun R row k f b) (sym (put-here s k p d)) (begun_harmed R (d s) k f b g p z));
         table = λ a. ap (λ (m : ℕ). table_of (put s k p d s) m a) {x = k + 0} {y = k} (omega arith)
             ∙ ap (λ (row : Row). table_of row k a) (put-here s k p d) ∙ table_kept (d s) k p a;
         rest = put_rest s k p d;
@@ -93,5 +93,5 @@ module _ (R : ℕ) (s : Side) (f b : ℕ) where
   cut d k q (x ∷ xs) zero Tears e g = subst (Progress R d (put s k Torn d) s k f b (x ∷ xs)) {x = 0} {y = min 0 (suc (length xs))} (omega arith) (harmed d k (x ∷ xs) Torn refl (λ q. refl) g)
   cut d k q (x ∷ xs) zero Zeroes e g = subst (Progress R d (put s k Blank d) s k f b (x ∷ xs)) {x = 0} {y = min 0 (suc (length xs))} (omega arith) (harmed d k (x ∷ xs) Blank refl (λ q. refl) g)
   cut d k q (x ∷ xs) (suc i) c e g =
-      one_more d k q x xs e _ (min (done i c) (length xs)) _ (let z : done (suc i) c ≡ suc (done i c) = done-suc i c in omega arith)
+      one_more d k q x xs e _ (min (done i c) (length xs)) _ (let z : done (suc i) c ≡ suc (done i c) = done_suc i c in omega arith)
       (cut (wrote d k q x xs e) (suc k) (suc q) xs i c (omega arith) (wrote-begun d k q x xs e g))

@@ -77,8 +77,8 @@ row-is-read row (suc R) = go (row-is-read row R) (cases_Bool (eqb (reads row R) 
           ];
         })
 
-pub reads-le : (row : Row) (n : ℕ) → reads row n ≤ n
-reads-le row n = (row-is-read row n).few
+pub reads_le : (row : Row) (n : ℕ) → reads row n ≤ n
+reads_le row n = (row-is-read row n).few
 
 module _ (R : ℕ) (row : Row) (n f b : ℕ) (g : Begun R row n f b) where
   pub begun_first : 0 < n → first row ≡ f
@@ -126,8 +126,8 @@ module _ (R : ℕ) (row : Row) (n f b : ℕ) (g : Begun R row n f b) where
       }
 
   -- bytes without a record behind the last one
-  pub begun-harmed : (p : Place) → height p ≡ 0 → Begun R (at n p row) n f b
-  begun-harmed p e =
+  pub begun_harmed : (p : Place) → height p ≡ 0 → Begun R (at n p row) n f b
+  begun_harmed p e =
       record {
         here = λ k l. subst (λ (q : Place). numbers (f + k) q ≡ true) (sym (at_other n k p row (omega arith))) (g.here k l);
         past = λ k l m. elim (cases_eq k n) [

@@ -64,18 +64,18 @@ module _ (d : Device) (a b : RowScan) (ka : Knows (d Row0) 4096 a) (kb : Knows (
       whole_row (get_or rows i unread) ≡ true → Recovered d rows i h found.Table
   takes-newer i h l e s w = found_at i h l e (newer-first i s ∙ cond-true _ _ _ (sym (row_whole i l) ∙ w))
 
-  pub takes-older : (i h : ℕ) → i < 2 → h ≡ max a.highest b.highest → side_of i ≡ newer_of (leb 1 a.row.count) (leb 1 b.row.count) (ltb a.row.first b.row.first) →
+  pub takes_older : (i h : ℕ) → i < 2 → h ≡ max a.highest b.highest → side_of i ≡ newer_of (leb 1 a.row.count) (leb 1 b.row.count) (ltb a.row.first b.row.first) →
       whole_row (get_or rows i unread) ≡ false → whole_row (get_or rows (1 - i) unread) ≡ true → Recovered d rows (1 - i) h found.Table
-  takes-older i h l e s w v =
+  takes_older i h l e s w v =
       found_at (1 - i) h (omega arith) e
       (newer-first i s ∙ cond-false _ _ _ (sym (row_whole i l) ∙ w)
       ∙ cond-true _ _ _ (ap (λ (x : Side). whole 4096 (d x)) (other-side i l) ∙ sym (row_whole (1 - i) (omega arith)) ∙ v)
       ∙ ap Choice.Found (other-side i l))
 
-  pub takes-neither : (i h : ℕ) (r : RowState) (f : Found) → i < 2 → h ≡ max a.highest b.highest → side_of i ≡ newer_of (leb 1 a.row.count) (leb 1 b.row.count) (ltb a.row.first b.row.first) →
+  pub takes_neither : (i h : ℕ) (r : RowState) (f : Found) → i < 2 → h ≡ max a.highest b.highest → side_of i ≡ newer_of (leb 1 a.row.count) (leb 1 b.row.count) (ltb a.row.first b.row.first) →
       whole_row (get_or rows i unread) ≡ false → whole_row (get_or rows (1 - i) unread) ≡ false → f ≡ cond (a.blank && b.blank) found.New found.Lost →
       Recovered d (r ∷ record { first = 0; base = 0; count = 4096 } ∷ []) 1 h f
-  takes-neither i h r f l e s w v z =
+  takes_neither i h r f l e s w v z =
       let c : chosen 4096 d ≡ cond (blank 4096 d) New Lost =
       newer-first i s ∙ cond-false _ _ _ (sym (row_whole i l) ∙ w)
       ∙ cond-false _ _ _ (ap (λ (x : Side). whole 4096 (d x)) (other-side i l) ∙ sym (row_whole (1 - i) (omega arith)) ∙ v) in
@@ -99,8 +99,8 @@ row_of : (bs : List (List ℕ)) (s : Side) (row : Row) → ((k : ℕ) → k < 40
 row_of bs s row h =
     subst (Knows (device_of bs s) 4096) (sym (scanned-same row (device_of bs s) 4096 (λ k l. h k l ∙ sym (cond-true _ _ _ (lt-ltb k 4096 l))))) (knows (device_of bs s) 4096)
 
-pub row-0 : (bs : List (List ℕ)) (s : RowScan) → s ≡ scanned (λ k. place_of (get_or bs (0 + k) [])) 4096 → Knows (device_of bs Row0) 4096 s
-row-0 bs s e = subst (Knows (device_of bs Row0) 4096) (sym e) (row_of bs Row0 (λ k. place_of (get_or bs (0 + k) [])) (λ k l. ap (λ (i : ℕ). place_of (get_or bs i [])) {x = 0 + k} {y = k} (omega arith)))
+pub row_0 : (bs : List (List ℕ)) (s : RowScan) → s ≡ scanned (λ k. place_of (get_or bs (0 + k) [])) 4096 → Knows (device_of bs Row0) 4096 s
+row_0 bs s e = subst (Knows (device_of bs Row0) 4096) (sym e) (row_of bs Row0 (λ k. place_of (get_or bs (0 + k) [])) (λ k l. ap (λ (i : ℕ). place_of (get_or bs i [])) {x = 0 + k} {y = k} (omega arith)))
 
-pub row-1 : (bs : List (List ℕ)) (s : RowScan) → s ≡ scanned (λ k. place_of (get_or bs (4096 + k) [])) 4096 → Knows (device_of bs Row1) 4096 s
-row-1 bs s e = subst (Knows (device_of bs Row1) 4096) (sym e) (row_of bs Row1 (λ k. place_of (get_or bs (4096 + k) [])) (λ k l. refl))
+pub row_1 : (bs : List (List ℕ)) (s : RowScan) → s ≡ scanned (λ k. place_of (get_or bs (4096 + k) [])) 4096 → Knows (device_of bs Row1) 4096 s
+row_1 bs s e = subst (Knows (device_of bs Row1) 4096) (sym e) (row_of bs Row1 (λ k. place_of (get_or bs (4096 + k) [])) (λ k l. refl))

@@ -16,18 +16,18 @@ use Rattle.std.proofs.lemmas.List.{get_or_past}
 use Rattle.journal.specs.Laws.{Ready, Sound}
 use Rattle.journal.proofs.Tables.{none-some}
 use Rattle.journal.proofs.Runs.{filed-at, none-at}
-use Rattle.journal.proofs.Reading.{table_same, reads-le}
+use Rattle.journal.proofs.Reading.{table_same, reads_le}
 
 put-more : (o : Option Record) (z : Bool) (t u : Table) (a : ℕ) → t a ≡ u a → put_in (place_from o false) t a ≡ put_in (place_from o z) u a
 put-more None true t u a e = e
 put-more None false t u a e = e
 put-more (Some r) z t u a e = ap (cond (eqb a r.lease.address) (Some r.lease)) e
 
-pub restored-more : (row : Row) (k : ℕ) (t v : List (Option Lease)) (o : Option Record) (z : Bool) → length v ≡ length t → place_from o z ≡ row k →
+pub restored_more : (row : Row) (k : ℕ) (t v : List (Option Lease)) (o : Option Record) (z : Bool) → length v ≡ length t → place_from o z ≡ row k →
     ((a : ℕ) → a < length t → get_or t a None ≡ table_of row k a) → ((a : ℕ) → a < length v → get_or v a None ≡ put_in (place_from o false) (table_in t) a) →
     (a : ℕ) → a < length v → get_or v a None ≡ table_of row (k + 1) a
 unfolding table_of
-restored-more row k t v o z s e h p a l =
+restored_more row k t v o z s e h p a l =
     p a l ∙ put-more o z (table_in t) (table_of row k) a (h a (omega arith)) ∙ ap (λ (q : Place). put_in q (table_of row k) a) e
     ∙ sym (ap (λ (i : ℕ). table_of row i a) (add-one k))
 
@@ -42,7 +42,7 @@ count-few d rows i h found.New r = omega arith
 count-few d rows i h found.Lost r = omega arith
 count-few d rows i h found.Table r =
     let e : (get_or rows i unread).count ≡ reads (d (side_of i)) 4096 = ap (λ (c : Cursor). c.count) (r.cursor ∙ ap (cursor_at 4096 d) (sym r.choice)) in
-    let z : reads (d (side_of i)) 4096 ≤ 4096 = reads-le (d (side_of i)) 4096 in omega arith
+    let z : reads (d (side_of i)) 4096 ≤ 4096 = reads_le (d (side_of i)) 4096 in omega arith
 
 pub restored : (bs : List (List ℕ)) (rows : List RowState) (i h : ℕ) (f : Found) → Recovered (device_of bs) rows i h f → (a : ℕ) →
     table_of (λ k. place_of (get_or bs (i * 4096 + k) [])) (count_of f (get_or rows i unread).count) a ≡ leases 4096 (device_of bs) a

@@ -10,9 +10,9 @@ use Rattle.journal.specs.Crash.{cut_at, lands, Damaged}
 use Rattle.journal.specs.Run.{Operation, Append, Crash, Restart, Clock, Damage, State, start, planned, step, run, Allowed, Each, Any}
 use Rattle.journal.specs.Laws.{Sound, Ready, AllSurvive, Spares, AnsweredStays, Writes, NoneAppears}
 use Rattle.journal.proofs.Reading.{none_read}
-use Rattle.journal.proofs.Tables.{set_same, set_other, none-some, same_some, kept-some, agree-set, agree-later, agree-join, filed-empty, filed-table}
-use Rattle.journal.proofs.Choosing.{damaged-found, damaged-leases, damaged-cursor, high-below}
-use Rattle.journal.proofs.Appends.{append-stands, append-survives}
+use Rattle.journal.proofs.Tables.{set_same, set_other, none-some, same_some, kept-some, agree_set, agree_later, agree_join, filed-empty, filed-table}
+use Rattle.journal.proofs.Choosing.{damaged_found, damaged_leases, damaged_cursor, high-below}
+use Rattle.journal.proofs.Appends.{append_stands, append_survives}
 
 -- what holds all along
 pub record Holds (R n : ℕ) (s : State) : Type 0 where
@@ -38,45 +38,45 @@ reread R n then d s =
 
 later : (R n then last : ℕ) (d : Device) (c : Cursor) (u : Table) → then ≤ last → Ready R n then d c u → Ready R n last d c u
 later R n then last d c u l r =
-    record { sound = r.sound; same = r.same; agrees = agree-later n then last (leases R d) u l r.agrees; filed = r.filed; none = r.none }
+    record { sound = r.sound; same = r.same; agrees = agree_later n then last (leases R d) u l r.agrees; filed = r.filed; none = r.none }
 
-cond-agree : (n now : ℕ) (b : Bool) (x : Lease) (t u : Table) → Agree n now t u → Agree n now (cond b (set x t) t) (cond b (set x u) u)
-cond-agree n now true x t u h = agree-set n now x t u h
-cond-agree n now false x t u h = h
+cond_agree : (n now : ℕ) (b : Bool) (x : Lease) (t u : Table) → Agree n now t u → Agree n now (cond b (set x t) t) (cond b (set x u) u)
+cond_agree n now true x t u h = agree_set n now x t u h
+cond_agree n now false x t u h = h
 
 module _ (R n : ℕ) (room : n < R) where
   pub stepped : (o : Operation) (s : State) → Allowed R o → Holds R n s → Holds R n (step R n o s)
   stepped (Append x) s a h =
-      let q = append-stands R n s.clock s.latest s.device s.cursor s.memory x room h.behind h.ready in
-      record { ready = q.0; told = agree-set n s.latest x s.memory s.told h.told; found = q.1; behind = h.behind }
+      let q = append_stands R n s.clock s.latest s.device s.cursor s.memory x room h.behind h.ready in
+      record { ready = q.0; told = agree_set n s.latest x s.memory s.told h.told; found = q.1; behind = h.behind }
   stepped (Crash x i c) s a h =
-      let q = append-survives R n s.clock s.latest s.device s.cursor s.memory x i c room h.behind h.ready in
+      let q = append_survives R n s.clock s.latest s.device s.cursor s.memory x i c room h.behind h.ready in
       record {
         ready = reread R n s.latest (cut_at i c (writes (planned R n s) x) s.device) q.sound;
-        told = agree-join n s.latest (leases R (cut_at i c (writes (planned R n s) x) s.device)) (cond (lands i c (length (writes (planned R n s) x))) (set x s.memory) s.memory) _
-            q.table (cond-agree n s.latest (lands i c (length (writes (planned R n s) x))) x s.memory s.told h.told);
+        told = agree_join n s.latest (leases R (cut_at i c (writes (planned R n s) x) s.device)) (cond (lands i c (length (writes (planned R n s) x))) (set x s.memory) s.memory) _
+            q.table (cond_agree n s.latest (lands i c (length (writes (planned R n s) x))) x s.memory s.told h.told);
         found = q.found ∙ ap (λ (b : Bool). b || lands i c (length (writes (planned R n s) x))) h.found;
         behind = h.behind;
       }
   stepped Restart s a h =
       record {
         ready = reread R n s.latest s.device h.ready.sound;
-        told = agree-join n s.latest (leases R s.device) s.memory s.told h.ready.agrees h.told;
+        told = agree_join n s.latest (leases R s.device) s.memory s.told h.ready.agrees h.told;
         found = h.found;
         behind = h.behind;
       }
   stepped (Clock t) s a h =
       record {
         ready = later R n s.latest (max s.latest t) s.device s.cursor s.memory (omega arith) h.ready;
-        told = agree-later n s.latest (max s.latest t) s.memory s.told (omega arith) h.told;
+        told = agree_later n s.latest (max s.latest t) s.memory s.told (omega arith) h.told;
         found = h.found;
         behind = omega arith;
       }
   stepped (Damage d) s a h =
       record {
         ready = reread R n s.latest d (inl a);
-        told = subst (λ (v : Table). Agree n s.latest v empty) (sym (damaged-leases R d a)) (λ a l. refl);
-        found = damaged-found R d a;
+        told = subst (λ (v : Table). Agree n s.latest v empty) (sym (damaged_leases R d a)) (λ a l. refl);
+        found = damaged_found R d a;
         behind = h.behind;
       }
 
@@ -85,8 +85,8 @@ module _ (R n : ℕ) (room : n < R) where
   holding [] s a h = h
   holding (o ∷ os) s a h = holding os (step R n o s) a.1 (stepped o s a.0 h)
 
-  blank-damaged : Damaged R (λ s k. Blank)
-  blank-damaged s = none_read R (λ k. Blank) (λ q. refl)
+  blank_damaged : Damaged R (λ s k. Blank)
+  blank_damaged s = none_read R (λ k. Blank) (λ q. refl)
 
   blank-high : high R (λ s k. Blank) ≡ 0
   blank-high = let z : high R (λ s k. Blank) ≤ 0 = high-below R (λ s k. Blank) 0 Row0 (λ k l. omega arith) (λ k l. omega arith) in omega arith
@@ -95,25 +95,25 @@ module _ (R n : ℕ) (room : n < R) where
   starts =
       record {
         ready = record {
-          sound = inl blank-damaged;
-          same = ap (fresh R) (sym blank-high) ∙ sym (damaged-cursor R (λ s k. Blank) blank-damaged);
-          agrees = subst (λ (v : Table). Agree n 0 v empty) (sym (damaged-leases R (λ s k. Blank) blank-damaged)) (λ a l. refl);
+          sound = inl blank_damaged;
+          same = ap (fresh R) (sym blank-high) ∙ sym (damaged_cursor R (λ s k. Blank) blank_damaged);
+          agrees = subst (λ (v : Table). Agree n 0 v empty) (sym (damaged_leases R (λ s k. Blank) blank_damaged)) (λ a l. refl);
           filed = filed-empty;
           none = λ e a. refl;
         };
         told = λ a l. refl;
-        found = damaged-found R (λ s k. Blank) blank-damaged;
+        found = damaged_found R (λ s k. Blank) blank_damaged;
         behind = omega arith;
       }
 
   pub living : (os : List Operation) → Each (Allowed R) os → Holds R n (run R n os (start R))
   living os a = holding os (start R) a starts
 
-pub all-survive : AllSurvive
-all-survive R n os room a =
+pub all_survive : AllSurvive
+all_survive R n os room a =
     let h : Holds R n (run R n os (start R)) = living R n room os a in
     record {
-      table = agree-join n (run R n os (start R)).latest (leases R (run R n os (start R)).device) (run R n os (start R)).memory (run R n os (start R)).told h.ready.agrees h.told;
+      table = agree_join n (run R n os (start R)).latest (leases R (run R n os (start R)).device) (run R n os (start R)).memory (run R n os (start R)).told h.ready.agrees h.told;
       memory = h.told;
       found = h.found;
       cursor = h.ready.same;
@@ -141,11 +141,11 @@ unfolding run
 told-after R n [] ps x s h = all-spared R n x ps (step R n (Append x) s) h (set_same x s.told x.address refl)
 told-after R n (o ∷ os) ps x s h = told-after R n os ps x (step R n o s) h
 
-pub answered-stays : AnsweredStays
-answered-stays R n os ps x room a h l e =
+pub answered_stays : AnsweredStays
+answered_stays R n os ps x room a h l e =
     let s : State = run R n (os ++ (Append x ∷ ps)) (start R) in
     kept-some s.latest (leases R s.device x.address) x
-    ((all-survive R n (os ++ (Append x ∷ ps)) room a).table x.address l
+    ((all_survive R n (os ++ (Append x ∷ ps)) room a).table x.address l
     ∙ ap (kept_of s.latest) (told-after R n os ps x (start R) h)
     ∙ cond-true (kept s.latest x) (Some x) None (le-leb s.latest x.expires e))
 
@@ -157,16 +157,16 @@ placed y t a x e =
       | inr q ↦ inr (sym (set_other y t a q) ∙ e)
     ]
 
-told-by : (R n : ℕ) (o : Operation) (s : State) (a : ℕ) (x : Lease) → (step R n o s).told a ≡ Some x → (Writes x o × (x.address ≡ a)) ⊎ (s.told a ≡ Some x)
-told-by R n (Append y) s a x e = placed y s.told a x e
-told-by R n (Crash y i c) s a x e = go (lands i c (length (writes (planned R n s) y))) e
+told_by_lem : (R n : ℕ) (o : Operation) (s : State) (a : ℕ) (x : Lease) → (step R n o s).told a ≡ Some x → (Writes x o × (x.address ≡ a)) ⊎ (s.told a ≡ Some x)
+told_by_lem R n (Append y) s a x e = placed y s.told a x e
+told_by_lem R n (Crash y i c) s a x e = go (lands i c (length (writes (planned R n s) y))) e
   where
     go : (b : Bool) → cond b (set y s.told) s.told a ≡ Some x → ((y ≡ x) × (x.address ≡ a)) ⊎ (s.told a ≡ Some x)
     go true e = placed y s.told a x e
     go false e = inr e
-told-by R n Restart s a x e = inr e
-told-by R n (Clock t) s a x e = inr e
-told-by R n (Damage d) s a x e = absurd (none-some x e)
+told_by_lem R n Restart s a x e = inr e
+told_by_lem R n (Clock t) s a x e = inr e
+told_by_lem R n (Damage d) s a x e = absurd (none-some x e)
 
 told-written : (R n : ℕ) (os : List Operation) (s : State) (a : ℕ) (x : Lease) → (run R n os s).told a ≡ Some x → (Any (Writes x) os × (x.address ≡ a)) ⊎ (s.told a ≡ Some x)
 unfolding run
@@ -174,12 +174,12 @@ told-written R n [] s a x e = inr e
 told-written R n (o ∷ os) s a x e =
     elim (told-written R n os (step R n o s) a x e) [
       | inl q ↦ inl (inr q.0, q.1)
-      | inr q ↦ elim (told-by R n o s a x q) [ inl z ↦ inl (inl z.0, z.1) | inr z ↦ inr z ]
+      | inr q ↦ elim (told_by_lem R n o s a x q) [ inl z ↦ inl (inl z.0, z.1) | inr z ↦ inr z ]
     ]
 
-pub none-appears : NoneAppears
-none-appears R n os a x room h l e q =
+pub none_appears : NoneAppears
+none_appears R n os a x room h l e q =
     let s : State = run R n os (start R) in
     let t : s.told a ≡ Some x = kept-some s.latest (s.told a) x
-    (sym ((all-survive R n os room h).table a l) ∙ ap (kept_of s.latest) e ∙ cond-true (kept s.latest x) (Some x) None (le-leb s.latest x.expires q)) in
+    (sym ((all_survive R n os room h).table a l) ∙ ap (kept_of s.latest) e ∙ cond-true (kept s.latest x) (Some x) None (le-leb s.latest x.expires q)) in
     elim (told-written R n os (start R) a x t) [ inl z ↦ z | inr z ↦ absurd (none-some x z) ]

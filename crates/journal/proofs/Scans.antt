@@ -14,11 +14,11 @@ unfolding zeros
 zeros-all [] h = refl
 zeros-all (b ∷ bs) h = and_from (eqb b 0) (zeros bs) (eq-eqb b 0 (h 0 (omega arith))) (zeros-all bs (λ k l. h (suc k) (omega arith)))
 
-pub zeros-not : (bs : List ℕ) (k : ℕ) → k < length bs → (get_or bs k 0 ≡ 0 → ⊥) → zeros bs ≡ false
+pub zeros_not : (bs : List ℕ) (k : ℕ) → k < length bs → (get_or bs k 0 ≡ 0 → ⊥) → zeros bs ≡ false
 unfolding zeros
-zeros-not [] k l h = absurd (omega arith)
-zeros-not (b ∷ bs) zero l h = and_left (eqb b 0) (zeros bs) (ne_eqb b 0 h)
-zeros-not (b ∷ bs) (suc k) l h = and_right (eqb b 0) (zeros bs) (zeros-not bs k (omega arith) h)
+zeros_not [] k l h = absurd (omega arith)
+zeros_not (b ∷ bs) zero l h = and_left (eqb b 0) (zeros bs) (ne_eqb b 0 h)
+zeros_not (b ∷ bs) (suc k) l h = and_right (eqb b 0) (zeros bs) (zeros_not bs k (omega arith) h)
 
 -- places that are not looked at do not matter
 pub scanned-same : (row old : Row) (n : ℕ) → ((k : ℕ) → k < n → row k ≡ old k) → scanned row n ≡ scanned old n

@@ -35,21 +35,21 @@ kept-later now then (Some x) l =
     (λ e. sym (cond-false _ _ _ (lt-leb then x.expires (let z : x.expires < now = leb-false _ _ e in omega arith))))
 
 -- tables that agree
-pub agree-set : (n now : ℕ) (x : Lease) (t u : Table) → Agree n now t u → Agree n now (set x t) (set x u)
-agree-set n now x t u h a l = go (eqb a x.address)
+pub agree_set : (n now : ℕ) (x : Lease) (t u : Table) → Agree n now t u → Agree n now (set x t) (set x u)
+agree_set n now x t u h a l = go (eqb a x.address)
   where
     go : (b : Bool) → kept_of now (cond b (Some x) (t a)) ≡ kept_of now (cond b (Some x) (u a))
     go true = refl
     go false = h a l
 
-pub agree-later : (n now then : ℕ) (t u : Table) → now ≤ then → Agree n now t u → Agree n then t u
-agree-later n now then t u l h a m = sym (kept-later now then (t a) l) ∙ ap (kept_of then) (h a m) ∙ kept-later now then (u a) l
+pub agree_later : (n now then : ℕ) (t u : Table) → now ≤ then → Agree n now t u → Agree n then t u
+agree_later n now then t u l h a m = sym (kept-later now then (t a) l) ∙ ap (kept_of then) (h a m) ∙ kept-later now then (u a) l
 
-pub agree-join : (n now : ℕ) (t u v : Table) → Agree n now t u → Agree n now u v → Agree n now t v
-agree-join n now t u v h k a l = h a l ∙ k a l
+pub agree_join : (n now : ℕ) (t u v : Table) → Agree n now t u → Agree n now u v → Agree n now t v
+agree_join n now t u v h k a l = h a l ∙ k a l
 
-pub agree-back : (n now : ℕ) (t u : Table) → Agree n now t u → Agree n now u t
-agree-back n now t u h a l = sym (h a l)
+pub agree_back : (n now : ℕ) (t u : Table) → Agree n now t u → Agree n now u t
+agree_back n now t u h a l = sym (h a l)
 
 pub agree_same : (n now : ℕ) (t u : Table) → ((a : ℕ) → t a ≡ u a) → Agree n now t u
 agree_same n now t u h a l = ap (kept_of now) (h a)
@@ -84,23 +84,23 @@ pub laid_same : (xs : List Lease) (t u : Table) → ((a : ℕ) → t a ≡ u a) 
 laid_same [] t u h a = h a
 laid_same (x ∷ xs) t u h a = laid_same xs (set x t) (set x u) (λ c. ap (cond (eqb c x.address) (Some x)) (h c)) a
 
-pub laid-push : (xs : List Lease) (x : Lease) (t : Table) → laid (xs ++ (x ∷ [])) t ≡ set x (laid xs t)
-laid-push [] x t = refl
-laid-push (y ∷ xs) x t = laid-push xs x (set y t)
+pub laid_push : (xs : List Lease) (x : Lease) (t : Table) → laid (xs ++ (x ∷ [])) t ≡ set x (laid xs t)
+laid_push [] x t = refl
+laid_push (y ∷ xs) x t = laid_push xs x (set y t)
 
 -- the leases kept
-pub length-keeping : (now : ℕ) (t : Table) (n : ℕ) → length (keeping now t n) ≤ n
+pub length_keeping : (now : ℕ) (t : Table) (n : ℕ) → length (keeping now t n) ≤ n
 unfolding keeping
-length-keeping now t zero = omega arith
-length-keeping now t (suc n) = go (kept_of now (t n)) (length-keeping now t n)
+length_keeping now t zero = omega arith
+length_keeping now t (suc n) = go (kept_of now (t n)) (length_keeping now t n)
   where
     go : (e : Option Lease) → length (keeping now t n) ≤ n → length (added (keeping now t n) e) ≤ suc n
     go None h = omega arith
     go (Some l) h = let z : length (keeping now t n ++ (l ∷ [])) ≡ length (keeping now t n) + 1 = length-append (keeping now t n) (l ∷ []) in omega arith
 
-pub length-added : (xs : List Lease) (o : Option Lease) → length (added xs o) ≡ cond (is_some o) (length xs + 1) (length xs)
-length-added xs None = refl
-length-added xs (Some l) = length-append xs (l ∷ [])
+pub length_added : (xs : List Lease) (o : Option Lease) → length (added xs o) ≡ cond (is_some o) (length xs + 1) (length xs)
+length_added xs None = refl
+length_added xs (Some l) = length-append xs (l ∷ [])
 
 -- one address more
 pub keeping-more : (now : ℕ) (t : Table) (n : ℕ) → keeping now t (n + 1) ≡ added (keeping now t n) (kept_of now (t n))
@@ -111,18 +111,18 @@ pub keeping_start : (now : ℕ) (t : Table) → keeping now t 0 ≡ []
 unfolding keeping
 keeping_start now t = refl
 
-pub keeping-le : (now : ℕ) (t : Table) (i n : ℕ) → i ≤ n → length (keeping now t i) ≤ length (keeping now t n)
+pub keeping_le : (now : ℕ) (t : Table) (i n : ℕ) → i ≤ n → length (keeping now t i) ≤ length (keeping now t n)
 unfolding keeping
-keeping-le now t i zero l = ap-le (omega arith)
+keeping_le now t i zero l = ap_le (omega arith)
   where
-    ap-le : i ≡ 0 → length (keeping now t i) ≤ length (keeping now t 0)
-    ap-le e = le_of_eq (ap (λ (k : ℕ). length (keeping now t k)) e)
-keeping-le now t i (suc n) l =
+    ap_le : i ≡ 0 → length (keeping now t i) ≤ length (keeping now t 0)
+    ap_le e = le_of_eq (ap (λ (k : ℕ). length (keeping now t k)) e)
+keeping_le now t i (suc n) l =
     elim (cases_eq i (suc n)) [
       | inl e ↦ le_of_eq (ap (λ (k : ℕ). length (keeping now t k)) e)
       | inr e ↦
-          let z : length (keeping now t i) ≤ length (keeping now t n) = keeping-le now t i n (omega arith) in
-          let y : length (added (keeping now t n) (kept_of now (t n))) ≡ cond (is_some (kept_of now (t n))) (length (keeping now t n) + 1) (length (keeping now t n)) = length-added (keeping now t n) (kept_of now (t n)) in
+          let z : length (keeping now t i) ≤ length (keeping now t n) = keeping_le now t i n (omega arith) in
+          let y : length (added (keeping now t n) (kept_of now (t n))) ≡ cond (is_some (kept_of now (t n))) (length (keeping now t n) + 1) (length (keeping now t n)) = length_added (keeping now t n) (kept_of now (t n)) in
           subst (λ (k : ℕ). length (keeping now t i) ≤ k) (sym y) (cond_both (is_some (kept_of now (t n))) (length (keeping now t n) + 1) (length (keeping now t n)) (λ (k : ℕ). length (keeping now t i) ≤ k) (λ q. omega arith) (λ q. omega arith))
     ]
 
@@ -139,7 +139,7 @@ laid_out now t (suc n) a f l = go (kept_of now (t n)) (λ x q. f n x (kept-some 
     go : (e : Option Lease) → ((x : Lease) → e ≡ Some x → x.address ≡ n) → laid (keeping now t n) empty a ≡ None → laid (added (keeping now t n) e) empty a ≡ None
     go None h r = r
     go (Some x) h r =
-        ap (λ (u : Table). u a) (laid-push (keeping now t n) x empty)
+        ap (λ (u : Table). u a) (laid_push (keeping now t n) x empty)
         ∙ set_other x (laid (keeping now t n) empty) a (let z : x.address ≡ n = h x refl in omega arith) ∙ r
 
 laid_in : (now : ℕ) (t : Table) (n a : ℕ) → Filed t → a < n → laid (keeping now t n) empty a ≡ kept_of now (t a)
@@ -153,12 +153,12 @@ laid_in now t (suc n) a f l =
   where
     here : (e : Option Lease) → ((x : Lease) → e ≡ Some x → x.address ≡ n) → a ≡ n → laid (added (keeping now t n) e) empty a ≡ e
     here None h q = laid_out now t n a f (omega arith)
-    here (Some x) h q = ap (λ (u : Table). u a) (laid-push (keeping now t n) x empty) ∙ set_same x (laid (keeping now t n) empty) a (let z : x.address ≡ n = h x refl in omega arith)
+    here (Some x) h q = ap (λ (u : Table). u a) (laid_push (keeping now t n) x empty) ∙ set_same x (laid (keeping now t n) empty) a (let z : x.address ≡ n = h x refl in omega arith)
 
     past : (e : Option Lease) → ((x : Lease) → e ≡ Some x → x.address ≡ n) → (a ≡ n → ⊥) → laid (keeping now t n) empty a ≡ kept_of now (t a) → laid (added (keeping now t n) e) empty a ≡ kept_of now (t a)
     past None h q r = r
     past (Some x) h q r =
-        ap (λ (u : Table). u a) (laid-push (keeping now t n) x empty)
+        ap (λ (u : Table). u a) (laid_push (keeping now t n) x empty)
         ∙ set_other x (laid (keeping now t n) empty) a (let z : x.address ≡ n = h x refl in omega arith) ∙ r
 
 -- the leases kept make a table that agrees with theirs

@@ -25,21 +25,21 @@ Meant s v r (Granted g) = GrantedBy s v r g
 Meant s v r (Refused f) = Unit
 
 module _ (s : Settings) (v : Server) (r : Request) where
-  by-choice : v.up ≡ true → v.silent ≡ None → (o : Option ℕ) → choose s.addresses v.clock v.table r ≡ o → Meant s v r (answered r o)
-  by-choice up quiet None e = tt
-  by-choice up quiet (Some a) e = record { up = up; quiet = quiet; chosen = e; client = refl; nonce = refl }
+  by_choice : v.up ≡ true → v.silent ≡ None → (o : Option ℕ) → choose s.addresses v.clock v.table r ≡ o → Meant s v r (answered r o)
+  by_choice up quiet None e = tt
+  by_choice up quiet (Some a) e = record { up = up; quiet = quiet; chosen = e; client = refl; nonce = refl }
 
-  by-silence : v.up ≡ true → (o : Option ℕ) → v.silent ≡ o → Meant s v r (answer_up s v r o)
-  by-silence up None e = by-choice up e (choose s.addresses v.clock v.table r) refl
-  by-silence up (Some u) e = tt
+  by_silence : v.up ≡ true → (o : Option ℕ) → v.silent ≡ o → Meant s v r (answer_up s v r o)
+  by_silence up None e = by_choice up e (choose s.addresses v.clock v.table r) refl
+  by_silence up (Some u) e = tt
 
   pub meant : Meant s v r (answer s v r)
-  meant = cond_both v.up _ Unheard (λ x. Meant s v r x) (λ up. by-silence up v.silent refl) (λ e. tt)
+  meant = cond_both v.up _ Unheard (λ x. Meant s v r x) (λ up. by_silence up v.silent refl) (λ e. tt)
 
 pub lending-parts : (up : Bool) (o : Option ℕ) → (up && not_silent o) ≡ true → (up ≡ true) × (o ≡ None)
 lending-parts up None e = ((and_parts up true e).0, refl)
 lending-parts up (Some u) e = absurd (both_ways _ refl (and_parts up false e).1)
 
-pub not-silent : (o : Option ℕ) → is_silent o ≡ false → o ≡ None
-not-silent None e = refl
-not-silent (Some u) e = absurd (both_ways _ e refl)
+pub not_silent_lem : (o : Option ℕ) → is_silent o ≡ false → o ≡ None
+not_silent_lem None e = refl
+not_silent_lem (Some u) e = absurd (both_ways _ e refl)

@@ -6,6 +6,6 @@ use Rattle.lease.specs.World.{elem, sent}
 use Rattle.lease.specs.Run.{world}
 use Rattle.lease.specs.Cases.{AllSeen, CasesHold}
 
-pub cases-hold : CasesHold
+pub cases_hold : CasesHold
 unfolding AllSeen world elem sent lowest
-cases-hold = (refl, (refl, (refl, (refl, (refl, (refl, (refl, (refl, (refl, (refl, (refl, (refl, (refl, tt)))))))))))))
+cases_hold = (refl, (refl, (refl, (refl, (refl, (refl, (refl, (refl, (refl, (refl, (refl, (refl, (refl, tt)))))))))))))

@@ -22,9 +22,9 @@ either true true e = inl refl
 either true false e = inr refl
 either false y e = inr e
 
-free-either : (now c : ℕ) (o : Option Lease) → free now c o ≡ true → (owned now c o ≡ true) ⊎ (vacant now o ≡ true)
-free-either now c None e = inr refl
-free-either now c (Some l) e = either (eqb l.client c) (live now l) e
+free_either : (now c : ℕ) (o : Option Lease) → free now c o ≡ true → (owned now c o ≡ true) ⊎ (vacant now o ≡ true)
+free_either now c None e = inr refl
+free_either now c (Some l) e = either (eqb l.client c) (live now l) e
 
 -- what a scan finds
 pub record Lowest (test : ℕ → Bool) (a k : ℕ) (o : Option ℕ) : Type 0 where
@@ -122,7 +122,7 @@ module _ (pool now : ℕ) (t : Table) (r : Request) where
         others = λ q e. vacant-free now c (t q) (rest.passes q e);
         preferred = λ l f none. absurd (none-some _ (p.had l f));
         lowest_free = λ n none q e. (rest.passes q e, λ a l. rest.first q e a (omega arith) l);
-        exists = λ b l e. elim (free-either now c (t b) e) [ inl f ↦ absurd (no_own x b l f) | inr f ↦ rest.any b (omega arith) (omega arith) f ];
+        exists = λ b l e. elim (free_either now c (t b) e) [ inl f ↦ absurd (no_own x b l f) | inr f ↦ rest.any b (omega arith) (omega arith) f ];
       }
 
 pub choosing : Choosing

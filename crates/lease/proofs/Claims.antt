@@ -74,8 +74,8 @@ pub record Moves (s : Settings) (S S' : ℕ → ℕ → Type 0) (k k' : View) (c
       In (Grants g) k.messages ⊎ (x.up ≡ true → (asked : ℕ) → asked ≤ x.clock → Claim (life s) S' k' c x'.clock asked g.address)
 
 module _ (s : Settings) (S S' : ℕ → ℕ → Type 0) (k k' : View) (c : ℕ) (x x' : Client) (m : Moves s S S' k k' c x x') where
-  pub using-moves : (u : Use) → x'.clock ≤ u.until → Using s S k c x u → Using s S' k' c x' u
-  using-moves u l q =
+  pub using_moves : (u : Use) → x'.clock ≤ u.until → Using s S k c x u → Using s S' k' c x' u
+  using_moves u l q =
       record {
         up = m.up ∙ q.up;
         now = l;
@@ -84,8 +84,8 @@ module _ (s : Settings) (S S' : ℕ → ℕ → Type 0) (k k' : View) (c : ℕ) 
         claim = m.claims q.asked u.address q.up (omega (arith, q.till)) q.claim;
       }
 
-  pub waiting-moves : (q : Wait) → Waiting s S k c x q → Waiting s S' k' c x' q
-  waiting-moves q h =
+  pub waiting_moves : (q : Wait) → Waiting s S k c x q → Waiting s S' k' c x' q
+  waiting_moves q h =
       record {
         up = m.up ∙ h.up;
         drawn = m.drawn q.nonce h.drawn;
@@ -97,22 +97,22 @@ module _ (s : Settings) (S S' : ℕ → ℕ → Type 0) (k k' : View) (c : ℕ) 
       }
 
   -- a client whose uses and requests are among those that it had
-  pub holds-moves : ((u : Use) → x'.holding.uses ≡ Some u → (x.holding.uses ≡ Some u) × (x'.clock ≤ u.until)) → x'.holding.waits ≡ x.holding.waits →
+  pub holds_moves : ((u : Use) → x'.holding.uses ≡ Some u → (x.holding.uses ≡ Some u) × (x'.clock ≤ u.until)) → x'.holding.waits ≡ x.holding.waits →
       Holds s S k c x → Holds s S' k' c x'
-  holds-moves still same h =
+  holds_moves still same h =
       record {
-        uses = λ u e. using-moves u (still u e).1 (h.uses u (still u e).0);
-        waits = λ q e. waiting-moves q (h.waits q (sym same ∙ e));
+        uses = λ u e. using_moves u (still u e).1 (h.uses u (still u e).0);
+        waits = λ q e. waiting_moves q (h.waits q (sym same ∙ e));
       }
 
 -- a client that nothing happens to
 pub holds_same : (s : Settings) (S S' : ℕ → ℕ → Type 0) (k k' : View) (c : ℕ) (x : Client) → Moves s S S' k k' c x x → Holds s S k c x → Holds s S' k' c x
-holds_same s S S' k k' c x m h = holds-moves s S S' k k' c x x m (λ u e. (e, (h.uses u e).now)) refl h
+holds_same s S S' k k' c x m h = holds_moves s S S' k k' c x x m (λ u e. (e, (h.uses u e).now)) refl h
 
 -- a claim goes on
-pub claim-on : (lasts : ℕ) (S S' : ℕ → ℕ → Type 0) (k k' : View) (c clock clock' asked a : ℕ) → ((t h : ℕ) → S t h → S' t h) → clock ≤ clock' → (q : Claim lasts S k c clock asked a) →
+pub claim_on : (lasts : ℕ) (S S' : ℕ → ℕ → Type 0) (k k' : View) (c clock clock' asked a : ℕ) → ((t h : ℕ) → S t h → S' t h) → clock ≤ clock' → (q : Claim lasts S k c clock asked a) →
     q.h ≤ k'.now → ((u : ℕ) → k'.hush ≡ Some u → q.h + lasts ≤ u) → Line k'.book a c (q.h + lasts) → Claim lasts S' k' c clock' asked a
-claim-on lasts S S' k k' c clock clock' asked a kept on q past hushed l =
+claim_on lasts S S' k k' c clock clock' asked a kept on q past hushed l =
     record {
       t = q.t;
       h = q.h;

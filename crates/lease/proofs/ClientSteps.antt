@@ -10,8 +10,8 @@ use Rattle.lease.specs.Holding.{Use, Wait, Holding, taken, taking_for, settled}
 use Rattle.lease.specs.World.{Message, Requests, Grants, Server, Client, World, knowing_nothing, elem}
 use Rattle.lease.specs.Run.{with_holding, asked, held_by, hearing, with_client, requested, asks, client_hears}
 use Rattle.lease.proofs.Options.{none-some, some_same}
-use Rattle.lease.proofs.Claims.{In, View, view, Using, Waiting, Holds, Moves, using-moves, waiting-moves, holds_same}
-use Rattle.lease.proofs.Sound.{Moments, Sound, Kept, claim-stays, same, client-does}
+use Rattle.lease.proofs.Claims.{In, View, view, Using, Waiting, Holds, Moves, using_moves, waiting_moves, holds_same}
+use Rattle.lease.proofs.Sound.{Moments, Sound, Kept, claim_stays, same, client-does}
 
 grant-request : (g : Grant) (r : Request) → Grants g ≡ Requests r → ⊥
 grant-request g r e = let z : ◌≡◌ {A = ℕ} 0 1 = cc in omega arith
@@ -39,14 +39,14 @@ module _ (s : Settings) (S S' : Moments) (w : World) (k : Sound s S w) where
       (record { uses = λ u e. absurd (none-some u e); waits = λ q e. absurd (none-some q e) })
 
   -- what a client has that stays as it is, while it does something
-  own-moves : (c : ℕ) (h : Holding) (ms : List Message) (drawn : List ℕ) → Kept S S' c → ((n : ℕ) → elem n w.drawn ≡ true → elem n drawn ≡ true) → ((g : Grant) → In (Grants g) ms → In (Grants g) w.messages) →
+  own_moves : (c : ℕ) (h : Holding) (ms : List Message) (drawn : List ℕ) → Kept S S' c → ((n : ℕ) → elem n w.drawn ≡ true → elem n drawn ≡ true) → ((g : Grant) → In (Grants g) ms → In (Grants g) w.messages) →
       Moves s (S c) (S' c) (view w k.book) (viewed ms drawn) c (w.clients c) (with_holding (w.clients c) h)
-  own-moves c h ms drawn ks on old =
+  own_moves c h ms drawn ks on old =
       record {
         up = refl;
         clock = omega arith;
         drawn = on;
-        claims = λ asked a x l q. claim-stays s S S' w k c ms drawn ks asked a q;
+        claims = λ asked a x l q. claim_stays s S S' w k c ms drawn ks asked a q;
         grants = λ g own i. inl (old g i);
       }
 
@@ -56,7 +56,7 @@ module _ (s : Settings) (S S' : Moments) (w : World) (k : Sound s S w) where
       (λ able. client-does s S S' w k c me (Requests r ∷ w.messages) (n ∷ w.drawn) (λ d f. ks d) (more n w.drawn)
       (λ m. elim [ inl f ↦ rw f (newest n w.drawn) | inr i ↦ more n w.drawn _ (k.nonces m i) ]) old
       (record {
-        uses = λ u f. using-moves s (S c) (S' c) (view w k.book) after c (w.clients c) me moves u ((k.holds c).uses u f).now ((k.holds c).uses u f);
+        uses = λ u f. using_moves s (S c) (S' c) (view w k.book) after c (w.clients c) me moves u ((k.holds c).uses u f).now ((k.holds c).uses u f);
         waits = λ q f.
             let g : record { nonce = n; asked = (w.clients c).clock } ≡ q = some_same _ _ f in
             subst (λ (z : Wait). Waiting s (S' c) after c me z) g
@@ -83,7 +83,7 @@ module _ (s : Settings) (S S' : Moments) (w : World) (k : Sound s S w) where
       old g (inr i) = i
 
       moves : Moves s (S c) (S' c) (view w k.book) after c (w.clients c) me
-      moves = own-moves c _ (Requests r ∷ w.messages) (n ∷ w.drawn) (ks c) (more n w.drawn) old
+      moves = own_moves c _ (Requests r ∷ w.messages) (n ∷ w.drawn) (ks c) (more n w.drawn) old
 
   -- a grant that comes to a client
   module _ (c : ℕ) (ks : (d : ℕ) → Kept S S' d) where
@@ -91,7 +91,7 @@ module _ (s : Settings) (S S' : Moments) (w : World) (k : Sound s S w) where
     has h = with_holding (w.clients c) h
 
     moves : (h : Holding) → Moves s (S c) (S' c) (view w k.book) (viewed w.messages w.drawn) c (w.clients c) (has h)
-    moves h = own-moves c h w.messages w.drawn (ks c) (λ n e. e) (λ g i. i)
+    moves h = own_moves c h w.messages w.drawn (ks c) (λ n e. e) (λ g i. i)
 
     does : (x : Client) → Holds s (S' c) (viewed w.messages w.drawn) c x → Sound s S' (with_client c x w)
     does x q = client-does s S S' w k c x w.messages w.drawn (λ d f. ks d) (λ n e. e) k.nonces (λ g i. i) q
@@ -103,14 +103,14 @@ module _ (s : Settings) (S S' : Moments) (w : World) (k : Sound s S w) where
     abbrev After : Result Holding Fault → Type 0
     After x = Sound s S' (with_client c (settled (w.clients c) (held_by (w.clients c) x)) w)
 
-    has-taken : (g : Grant) → In (Grants g) w.messages → g.client ≡ c → (o : Option Wait) → (w.clients c).holding.waits ≡ o → After (taking_for s.term (w.clients c).clock g o)
-    has-taken g i own None e = unchanged
-    has-taken g i own (Some q) e =
+    has_taken : (g : Grant) → In (Grants g) w.messages → g.client ≡ c → (o : Option Wait) → (w.clients c).holding.waits ≡ o → After (taking_for s.term (w.clients c).clock g o)
+    has_taken g i own None e = unchanged
+    has_taken g i own (Some q) e =
         cond_both (eqb g.nonce q.nonce) _ _ (λ x. After x)
         (λ f. cond_both (leb (w.clients c).clock (q.asked + s.term)) _ _ (λ x. After x)
         (λ soon.
         let h : Holding = taken s.term g.address q.asked in
-        let wait : Waiting s (S' c) (viewed w.messages w.drawn) c (has h) q = waiting-moves s (S c) (S' c) (view w k.book) _ c (w.clients c) _ (moves h) q ((k.holds c).waits q e) in
+        let wait : Waiting s (S' c) (viewed w.messages w.drawn) c (has h) q = waiting_moves s (S c) (S' c) (view w k.book) _ c (w.clients c) _ (moves h) q ((k.holds c).waits q e) in
         does (has h) (record {
           uses = λ u j. subst (λ (z : Use). Using s (S' c) (viewed w.messages w.drawn) c (has h) z) (some_same _ _ j)
               (record {
@@ -128,7 +128,7 @@ module _ (s : Settings) (S S' : Moments) (w : World) (k : Sound s S w) where
     hears-grant : (g : Grant) → In (Grants g) w.messages → Sound s S' (with_client c (settled (w.clients c) (hearing s.term c g (w.clients c))) w)
     hears-grant g i =
         cond_both (w.clients c).up _ (Ok (w.clients c)) (λ x. Sound s S' (with_client c (settled (w.clients c) x) w))
-        (λ up. cond_both (eqb g.client c) _ _ (λ x. After x) (λ e. has-taken g i (eqb-true _ _ e) (w.clients c).holding.waits refl) (λ e. unchanged))
+        (λ up. cond_both (eqb g.client c) _ _ (λ x. After x) (λ e. has_taken g i (eqb-true _ _ e) (w.clients c).holding.waits refl) (λ e. unchanged))
         (λ down. unchanged)
 
     pub client-hears : (o : Option Message) → ((m : Message) → o ≡ Some m → In m w.messages) → Sound s S' (client_hears s c o w)

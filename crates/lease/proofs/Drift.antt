@@ -66,32 +66,32 @@ other-alike w c d x e =
     let f : eqb c d ≡ false = ne_eqb c d (λ i. eqb-false d c (not-true _ e) (sym i)) in
     subst (λ (y : Client). Alike (w.clients c) y) (sym (cond-false (eqb c d) x (w.clients c) f)) (alike (w.clients c))
 
-takes-still : (x : ℕ) (s : Settings) (w : World) (c d : ℕ) (o : Option Message) → (w.clients c).up ≡ true → Gained x w (client_hears s d o w) c
-takes-still x s w c d None u = still x w w c u refl (alike _)
-takes-still x s w c d (Some (Requests r)) u = still x w w c u refl (alike _)
-takes-still x s w c d (Some (Grants g)) u = still x w _ c u refl (at-alike w c d _ (hearing-alike s.term d g (w.clients d)))
+takes_still : (x : ℕ) (s : Settings) (w : World) (c d : ℕ) (o : Option Message) → (w.clients c).up ≡ true → Gained x w (client_hears s d o w) c
+takes_still x s w c d None u = still x w w c u refl (alike _)
+takes_still x s w c d (Some (Requests r)) u = still x w w c u refl (alike _)
+takes_still x s w c d (Some (Grants g)) u = still x w _ c u refl (at-alike w c d _ (hearing-alike s.term d g (w.clients d)))
 
-crash-still : (x : ℕ) (s : Settings) (w : World) (c i : ℕ) (wrote : Bool) → (w.clients c).up ≡ true → Gained x w (step s (ServerHearsAndCrashes i wrote) w) c
-crash-still x s w c i true u = still x w _ c u (hears-clock s w (sent i w.messages)).0 (alike _)
-crash-still x s w c i false u = still x w _ c u refl (alike _)
+crash_still : (x : ℕ) (s : Settings) (w : World) (c i : ℕ) (wrote : Bool) → (w.clients c).up ≡ true → Gained x w (step s (ServerHearsAndCrashes i wrote) w) c
+crash_still x s w c i true u = still x w _ c u (hears-clock s w (sent i w.messages)).0 (alike _)
+crash_still x s w c i false u = still x w _ c u refl (alike _)
 
-step-gains : (x : ℕ) (s : Settings) (w : World) (c : ℕ) (e : Event) → Gains x e w → spares c e ≡ true → (w.clients c).up ≡ true → Gained x w (step s e w) c
-step-gains x s w c (Pass k f) g sp u =
+step_gains : (x : ℕ) (s : Settings) (w : World) (c : ℕ) (e : Event) → Gains x e w → spares c e ≡ true → (w.clients c).up ≡ true → Gained x w (step s e w) c
+step_gains x s w c (Pass k f) g sp u =
     let p : _ = client-clock (f c) (w.clients c) u in
     let q : _ = (passes-clock k w.server).0 in
     record { up = ap (λ (y : Client). y.up) (cond-true (w.clients c).up _ (w.clients c) u) ∙ u; behind = omega (arith, p, q, (g c).0); near = omega (arith, p, q, (g c).1) }
-step-gains x s w c (Asks d n p) g sp u =
+step_gains x s w c (Asks d n p) g sp u =
     cond_both ((w.clients d).up && not (elem n w.drawn)) (requested d n p w) w (λ w'. Gained x w w' c)
     (λ e. still x w (requested d n p w) c u refl (at-alike w c d _ (record { clock = refl; up = refl }))) (λ e. still x w w c u refl (alike _))
-step-gains x s w c (ServerHears i) g sp u =
+step_gains x s w c (ServerHears i) g sp u =
     still x w _ c u (hears-clock s w (sent i w.messages)).0 (subst (λ (f : ℕ → Client). Alike (w.clients c) (f c)) (sym (hears-clock s w (sent i w.messages)).1) (alike _))
-step-gains x s w c (ServerHearsAndCrashes i wrote) g sp u = crash-still x s w c i wrote u
-step-gains x s w c (ClientHears d i) g sp u = takes-still x s w c d (sent i w.messages) u
-step-gains x s w c (ClientStarts d clock) g sp u = still x w _ c u refl (other-alike w c d _ sp)
-step-gains x s w c (ClientCrashes d) g sp u = still x w _ c u refl (other-alike w c d _ sp)
-step-gains x s w c ServerCrashes g sp u = still x w _ c u refl (alike _)
-step-gains x s w c (Forgets gone) g sp u = still x w _ c u (forgets-clock gone w.server) (alike _)
-step-gains x s w c (ServerRestarts clock lost) g sp u =
+step_gains x s w c (ServerHearsAndCrashes i wrote) g sp u = crash_still x s w c i wrote u
+step_gains x s w c (ClientHears d i) g sp u = takes_still x s w c d (sent i w.messages) u
+step_gains x s w c (ClientStarts d clock) g sp u = still x w _ c u refl (other-alike w c d _ sp)
+step_gains x s w c (ClientCrashes d) g sp u = still x w _ c u refl (other-alike w c d _ sp)
+step_gains x s w c ServerCrashes g sp u = still x w _ c u refl (alike _)
+step_gains x s w c (Forgets gone) g sp u = still x w _ c u (forgets-clock gone w.server) (alike _)
+step_gains x s w c (ServerRestarts clock lost) g sp u =
     let q : _ = (restarts-clock s clock lost w.server).0 in
     record { up = u; behind = omega (arith, q, g.0); near = omega (arith, q, g.1) }
 
@@ -102,7 +102,7 @@ gains s n c [] before g sp u = record { up = u; behind = omega arith; near = ome
 gains s n c (e ∷ es) before g sp u =
     let p : (spares c e ≡ true) × (spares_all c es ≡ true) = and_parts (spares c e) (spares_all c es) sp in
     let ih : Gained (n - g.0) (world s before) (world s (es ++ before)) c = gains s (n - g.0) c es before g.3 p.1 u in
-    let now : Gained g.0 (world s (es ++ before)) (step s e (world s (es ++ before))) c = step-gains g.0 s (world s (es ++ before)) c e g.2 p.0 ih.up in
+    let now : Gained g.0 (world s (es ++ before)) (step s e (world s (es ++ before))) c = step_gains g.0 s (world s (es ++ before)) c e g.2 p.0 ih.up in
     record { up = now.up; behind = omega (arith, ih.behind, now.behind); near = omega (arith, ih.near, now.near, g.1) }
 
 close : (s : Settings) (n : ℕ) (es : List Event) → n ≤ s.skew → GainsAtMost s n es → Close s es
@@ -123,12 +123,12 @@ onward x ServerCrashes w g = tt
 onward x (Forgets gone) w g = tt
 onward x (ServerRestarts clock lost) w g = g.0
 
-all-along : (s : Settings) (n : ℕ) (es : List Event) → n ≤ s.skew → GainsAtMost s n es → AllAlong (Close s) es × Forward s es
+all_along : (s : Settings) (n : ℕ) (es : List Event) → n ≤ s.skew → GainsAtMost s n es → AllAlong (Close s) es × Forward s es
 unfolding AllAlong Forward GainsAtMost
-all-along s n [] l g = (tt, tt)
-all-along s n (e ∷ es) l g =
-    let r : AllAlong (Close s) es × Forward s es = all-along s (n - g.0) es (omega arith) g.3 in
+all_along s n [] l g = (tt, tt)
+all_along s n (e ∷ es) l g =
+    let r : AllAlong (Close s) es × Forward s es = all_along s (n - g.0) es (omega arith) g.3 in
     ((close s n (e ∷ es) l g, r.0), (onward g.0 e (world s es) g.2, r.1))
 
-pub little-drift : LittleDrift
-little-drift s es g = all-along s s.skew es (omega arith) g
+pub little_drift : LittleDrift
+little_drift s es g = all_along s s.skew es (omega arith) g

@@ -8,8 +8,8 @@ use Rattle.lease.specs.Run.{server_passes, crashes}
 use Rattle.lease.specs.Stands.{client_of}
 use Rattle.lease.specs.Code.{ServerImplements, ClientImplements}
 
-pub server-implements : ServerImplements
-server-implements =
+pub server_implements : ServerImplements
+server_implements =
     record {
       one = λ s t k v w e f. (sym e.0 ∙ f.0, sym e.1 ∙ f.1);
       made_so = λ s k m. m;
@@ -20,8 +20,8 @@ server-implements =
       restarted_so = λ s k l v clock lost e m. (cc, rw (← e.0, ← e.1) m.1);
     }
 
-pub client-implements : ClientImplements
-client-implements =
+pub client_implements : ClientImplements
+client_implements =
     record {
       one = λ h x y e f. sym e ∙ f;
       started_so = λ clock l m. m;

@@ -9,9 +9,9 @@ use Rattle.lease.specs.Premise.{spares, spares_all, Stretch, Near, Close, AllAlo
 use Rattle.lease.proofs.Options.{none-some, some_same}
 use Rattle.lease.proofs.Claims.{In}
 use Rattle.lease.proofs.Sound.{Moments, Sound, Agrees}
-use Rattle.lease.proofs.ServerSteps.{server-crashes, server-forgets, server-restarts, server-hears, server-hears-and-crashes}
+use Rattle.lease.proofs.ServerSteps.{server-crashes, server-forgets, server-restarts, server-hears, server-hears_and_crashes}
 use Rattle.lease.proofs.ClientSteps.{client-forgets, client-asks, client-hears}
-use Rattle.lease.proofs.Passing.{time-passes}
+use Rattle.lease.proofs.Passing.{time_passes}
 
 -- there was a moment in the run, with the server and the client up, when their clocks showed `h` and `t`, and the client neither crashed nor started since
 pub record Since (s : Settings) (es : List Event) (c t h : ℕ) : Type 0 where
@@ -21,9 +21,9 @@ pub record Since (s : Settings) (es : List Event) (c t h : ℕ) : Type 0 where
   pub ticks : ((world s before).clients c).clock ≡ t
   pub server-ticks : (world s before).server.clock ≡ h
 
-since-on : (s : Settings) (es : List Event) (e : Event) (c : ℕ) → spares c e ≡ true → (t h : ℕ) → Since s es c t h → Since s (e ∷ es) c t h
+since_on : (s : Settings) (es : List Event) (e : Event) (c : ℕ) → spares c e ≡ true → (t h : ℕ) → Since s es c t h → Since s (e ∷ es) c t h
 unfolding spares_all
-since-on s es e c p t h q =
+since_on s es e c p t h q =
     record {
       before = q.before;
       stretch = record {
@@ -37,12 +37,12 @@ since-on s es e c p t h q =
       server-ticks = q.server-ticks;
     }
 
-since-now : (s : Settings) (es : List Event) (c : ℕ) → (world s es).server.up ≡ true → ((world s es).clients c).up ≡ true → Since s es c ((world s es).clients c).clock (world s es).server.clock
+since_now : (s : Settings) (es : List Event) (c : ℕ) → (world s es).server.up ≡ true → ((world s es).clients c).up ≡ true → Since s es c ((world s es).clients c).clock (world s es).server.clock
 unfolding spares_all
-since-now s es c u x = record { before = es; stretch = record { between = []; split = refl; spared = refl; client_up = x }; server_up = u; ticks = refl; server-ticks = refl }
+since_now s es c u x = record { before = es; stretch = record { between = []; split = refl; spared = refl; client_up = x }; server_up = u; ticks = refl; server-ticks = refl }
 
-near-agrees : (s : Settings) (es : List Event) (c : ℕ) → Near s es → Agrees s (Since s es c) (world s es) c
-near-agrees s es c near up t h q below soon =
+near_agrees : (s : Settings) (es : List Event) (c : ℕ) → Near s es → Agrees s (Since s es c) (world s es) c
+near_agrees s es c near up t h q below soon =
     let d : ℕ = ((world s es).clients c).clock - t in
     let e : ((world s es).clients c).clock ≡ ((world s q.before).clients c).clock + d = omega (arith, q.ticks) in
     let n : (world s es).server.clock ≤ (world s q.before).server.clock + outlasts s d = near c q.before q.stretch q.server_up up d e (omega arith) in
@@ -51,13 +51,13 @@ near-agrees s es c near up t h q below soon =
 pub agrees : (s : Settings) (es : List Event) → Agree s es → (c : ℕ) → Agrees s (Since s es c) (world s es) c
 unfolding AllAlong world
 agrees s [] ag c = λ up t h q below soon. omega arith
-agrees s (e ∷ es) ag c = near-agrees s (e ∷ es) c ag.0
+agrees s (e ∷ es) ag c = near_agrees s (e ∷ es) c ag.0
 
-pub sent-in : (i : ℕ) (ms : List Message) (m : Message) → sent i ms ≡ Some m → In m ms
+pub sent_in : (i : ℕ) (ms : List Message) (m : Message) → sent i ms ≡ Some m → In m ms
 unfolding sent
-sent-in i [] m e = none-some m e
-sent-in zero (x ∷ ms) m e = inl (sym (some_same x m e))
-sent-in (suc i) (x ∷ ms) m e = inr (sent-in i ms m e)
+sent_in i [] m e = none-some m e
+sent_in zero (x ∷ ms) m e = inl (sym (some_same x m e))
+sent_in (suc i) (x ∷ ms) m e = inr (sent_in i ms m e)
 
 pub passes-clock : (k : ℕ) (v : Server) → ((server_passes k v).clock ≡ v.clock + k) × ((server_passes k v).up ≡ v.up)
 passes-clock k v = cond_both _ _ _ (λ (z : Server). (z.clock ≡ v.clock + k) × (z.up ≡ v.up)) (λ e. (refl, refl)) (λ e. (refl, refl))
@@ -76,15 +76,15 @@ sound-step : (s : Settings) (S S' : Moments) (e : Event) (w : World) → ((c : �
     ((c : ℕ) → (step s e w).server.up ≡ true → ((step s e w).clients c).up ≡ true → S' c ((step s e w).clients c).clock (step s e w).server.clock) →
     Sound s S w → Sound s S' (step s e w)
 sound-step s S S' (Pass k f) w ag ag' ks now now' so =
-    time-passes s S S' w so f (λ c. ks c refl) k
+    time_passes s S S' w so f (λ c. ks c refl) k
     (λ up c x t h m b u.
     let p : ((server_passes k w.server).clock ≡ w.server.clock + k) × ((server_passes k w.server).up ≡ w.server.up) = passes-clock k w.server in
     let q : (client_passes (f c) (w.clients c)).clock ≡ (w.clients c).clock + f c = client-clock (f c) (w.clients c) x in
     omega (arith, p.0, ag' c (p.1 ∙ up) t h (ks c refl t h m) (omega (arith, q)) (omega (arith, q))))
 sound-step s S S' (Asks c n p) w ag ag' ks now now' so = client-asks s S S' w so c n p (λ c. ks c refl)
-sound-step s S S' (ServerHears i) w ag ag' ks now now' so = server-hears s S S' w so ag (λ c. ks c refl) now _ (sent-in i w.messages)
-sound-step s S S' (ServerHearsAndCrashes i wrote) w ag ag' ks now now' so = server-hears-and-crashes s S S' w so ag (λ c. ks c refl) now _ wrote (sent-in i w.messages)
-sound-step s S S' (ClientHears c i) w ag ag' ks now now' so = client-hears s S S' w so c (λ c. ks c refl) _ (sent-in i w.messages)
+sound-step s S S' (ServerHears i) w ag ag' ks now now' so = server-hears s S S' w so ag (λ c. ks c refl) now _ (sent_in i w.messages)
+sound-step s S S' (ServerHearsAndCrashes i wrote) w ag ag' ks now now' so = server-hears_and_crashes s S S' w so ag (λ c. ks c refl) now _ wrote (sent_in i w.messages)
+sound-step s S S' (ClientHears c i) w ag ag' ks now now' so = client-hears s S S' w so c (λ c. ks c refl) _ (sent_in i w.messages)
 sound-step s S S' (ClientStarts c clock) w ag ag' ks now now' so = client-forgets s S S' w so c clock true (λ d e. ks d (other c d e))
 sound-step s S S' (ClientCrashes c) w ag ag' ks now now' so = client-forgets s S S' w so c _ false (λ d e. ks d (other c d e))
 sound-step s S S' ServerCrashes w ag ag' ks now now' so = server-crashes s S S' w so (λ c. ks c refl)
@@ -103,13 +103,13 @@ sound s [] ag =
       holds = λ c. record { uses = λ u e. absurd (none-some u e); waits = λ q e. absurd (none-some q e) };
     }
 sound s (e ∷ es) ag =
-    sound-step s (Since s es) (Since s (e ∷ es)) e (world s es) (agrees s es ag.1) (agrees s (e ∷ es) ag) (since-on s es e) (since-now s es) (since-now s (e ∷ es)) (sound s es ag.1)
+    sound-step s (Since s es) (Since s (e ∷ es)) e (world s es) (agrees s es ag.1) (agrees s (e ∷ es) ag) (since_on s es e) (since_now s es) (since_now s (e ∷ es)) (sound s es ag.1)
 
 -- the usual premise is stronger
-close-near : (s : Settings) (es : List Event) → AllAlong (Close s) es → Agree s es
+close_near : (s : Settings) (es : List Event) → AllAlong (Close s) es → Agree s es
 unfolding AllAlong
-close-near s [] ag = tt
-close-near s (e ∷ es) ag = (λ c before q up up' d g l. omega (arith, (ag.0 c before q).1, g), close-near s es ag.1)
+close_near s [] ag = tt
+close_near s (e ∷ es) ag = (λ c before q up up' d g l. omega (arith, (ag.0 c before q).1, g), close_near s es ag.1)
 
-pub closely-is-enough : CloselyIsEnough
-closely-is-enough s es ag = (close-near s es ag.0, ag.1)
+pub closely_is_enough : CloselyIsEnough
+closely_is_enough s es ag = (close_near s es ag.0, ag.1)

@@ -8,16 +8,16 @@ use Rattle.lease.specs.Holding.{Use, still_used, later}
 use Rattle.lease.specs.World.{Server, Client, World}
 use Rattle.lease.specs.Run.{over, client_passes, passes}
 use Rattle.lease.proofs.Options.{none-some, some_same}
-use Rattle.lease.proofs.Claims.{View, view, Claim, Holds, holds-moves, claim-on}
+use Rattle.lease.proofs.Claims.{View, view, Claim, Holds, holds_moves, claim_on}
 use Rattle.lease.proofs.Sound.{Moments, Sound, Mine, Kept}
 
 over-parts : (now : ℕ) (up : Bool) (o : Option ℕ) → over now up o ≡ true → (u : ℕ) × (o ≡ Some u) × (up ≡ true) × (u < now)
 over-parts now up None e = absurd (both_ways _ refl e)
 over-parts now up (Some u) e = (u, refl, (and_parts up (ltb u now) e).0, ltb-true _ _ (and_parts up (ltb u now) e).1)
 
-still-used : (now : ℕ) (o : Option Use) (u : Use) → still_used now o ≡ Some u → (o ≡ Some u) × (now ≤ u.until)
-still-used now None u = λ e. absurd (none-some u e)
-still-used now (Some x) u =
+still_used_lem : (now : ℕ) (o : Option Use) (u : Use) → still_used now o ≡ Some u → (o ≡ Some u) × (now ≤ u.until)
+still_used_lem now None u = λ e. absurd (none-some u e)
+still_used_lem now (Some x) u =
     cond_both (leb now x.until) (Some x) None (λ o. o ≡ Some u → (Some x ≡ Some u) × (now ≤ u.until))
     (λ e f. (f, rw (some_same x u f) at (leb-true _ _ e))) (λ e f. absurd (none-some u f))
 
@@ -37,30 +37,30 @@ module _ (s : Settings) (S S' : Moments) (w : World) (k : Sound s S w) where
         Holds s (S' c) (viewed v' book') c (client_passes (f c) (w.clients c))
     client-passes v' book' c claims =
         cond_both (w.clients c).up (older c) (w.clients c) (λ x. Holds s (S' c) (viewed v' book') c x)
-        (λ e. holds-moves s (S c) (S' c) (view w k.book) (viewed v' book') c (w.clients c) (older c)
+        (λ e. holds_moves s (S c) (S' c) (view w k.book) (viewed v' book') c (w.clients c) (older c)
         (record { up = refl; clock = omega arith; drawn = λ n e. e; claims = claims; grants = λ g own i. inl i })
-        (still-used ((w.clients c).clock + f c) (w.clients c).holding.uses) refl (k.holds c))
+        (still_used_lem ((w.clients c).clock + f c) (w.clients c).holding.uses) refl (k.holds c))
         (λ e. record {
           uses = λ u g. absurd (both_ways _ e ((k.holds c).uses u g).up);
           waits = λ q g. absurd (both_ways _ e ((k.holds c).waits q g).up);
         })
 
     -- for clients alone, by any ticks
-    pub clients-pass : Sound s S' (record { server = v; clients = λ c. client_passes (f c) (w.clients c); messages = w.messages; drawn = w.drawn })
-    clients-pass =
+    pub clients_pass : Sound s S' (record { server = v; clients = λ c. client_passes (f c) (w.clients c); messages = w.messages; drawn = w.drawn })
+    clients_pass =
         record {
           book = k.book;
           kept = k.kept;
           nonces = k.nonces;
           holds = λ c. client-passes v k.book c
-              (λ asked a up m q. claim-on (life s) (S c) (S' c) (view w k.book) _ c _ _ asked a (ks c) (omega arith) q q.past q.hushed q.line);
+              (λ asked a up m q. claim_on (life s) (S c) (S' c) (view w k.book) _ c _ _ asked a (ks c) (omega arith) q q.past q.hushed q.line);
         }
 
     -- for all, where the server's clock sees no use outlast its lease
     module _ (n : ℕ)
         (ag : v.up ≡ true → (c : ℕ) → (w.clients c).up ≡ true → (t h : ℕ) → S c t h → t ≤ (w.clients c).clock + f c → (w.clients c).clock + f c ≤ t + s.term → v.clock + n ≤ h + life s) where
-      pub time-passes : Sound s S' (passes n f w)
-      time-passes =
+      pub time_passes : Sound s S' (passes n f w)
+      time_passes =
           cond_both (over (v.clock + n) v.up v.silent) ended going (λ v'. Sound s S' (record { server = v'; clients = λ c. client_passes (f c) (w.clients c); messages = w.messages; drawn = w.drawn }))
           (λ e. record {
             book = empty;
@@ -73,7 +73,7 @@ module _ (s : Settings) (S S' : Moments) (w : World) (k : Sound s S w) where
             kept = k.kept;
             nonces = k.nonces;
             holds = λ c. client-passes going k.book c
-                (λ asked a up m q. claim-on (life s) (S c) (S' c) (view w k.book) _ c _ _ asked a (ks c) (omega arith) q (omega (arith, q.past)) q.hushed q.line);
+                (λ asked a up m q. claim_on (life s) (S c) (S' c) (view w k.book) _ c _ _ asked a (ks c) (omega arith) q (omega (arith, q.past)) q.hushed q.line);
           })
         where
           ended : Server

@@ -24,19 +24,19 @@ use Rattle.lease.proofs.Answers.{lending-parts}
 use Rattle.lease.proofs.Keeping.{tidy}
 use Rattle.lease.proofs.History.{Since, agrees, sound}
 
-uses-by : (s : Settings) (es : List Event) (ag : Agree s es) (c a : ℕ) (u : Uses (world s es) c a) →
+uses_by : (s : Settings) (es : List Event) (ag : Agree s es) (c a : ℕ) (u : Uses (world s es) c a) →
     Using s (Since s es c) (view (world s es) (sound s es ag).book) c ((world s es).clients c) (record { address = a; until = u.0 })
-uses-by s es ag c a u = ((sound s es ag).holds c).uses _ u.1
+uses_by s es ag c a u = ((sound s es ag).holds c).uses _ u.1
 
 pub never_two : NeverTwo
 never_two s es ag a c d u x =
-    let p : Line (sound s es ag).book a c _ = (uses-by s es ag c a u).claim.line in
-    let q : Line (sound s es ag).book a d _ = (uses-by s es ag d a x).claim.line in
+    let p : Line (sound s es ag).book a c _ = (uses_by s es ag c a u).claim.line in
+    let q : Line (sound s es ag).book a d _ = (uses_by s es ag d a x).claim.line in
     sym p.client ∙ ap (λ (l : Lease). l.client) (some_same _ _ (sym p.there ∙ q.there)) ∙ q.client
 
 pub in_table : InTable
 in_table s es ag c a u quiet =
-    let x : Using s (Since s es c) (view (world s es) (sound s es ag).book) c ((world s es).clients c) (record { address = a; until = u.0 }) = uses-by s es ag c a u in (
+    let x : Using s (Since s es c) (view (world s es) (sound s es ag).book) c ((world s es).clients c) (record { address = a; until = u.0 }) = uses_by s es ag c a u in (
       x.claim.line.lease,
       sym ((sound s es ag).kept quiet a) ∙ x.claim.line.there,
       x.claim.line.client,
@@ -67,11 +67,11 @@ takes s c g x t up own e l =
     ∙ cond-true (leb x.clock (t + s.term)) _ _ (le-leb _ _ l))
 
 -- who asks, is heard, and hears the grant
-two-messages : (s : Settings) (w : World) (c n p q : ℕ) → lending w.server ≡ true → (w.clients c).up ≡ true → elem n w.drawn ≡ false →
+two_messages : (s : Settings) (w : World) (c n p q : ℕ) → lending w.server ≡ true → (w.clients c).up ≡ true → elem n w.drawn ≡ false →
     choose s.addresses w.server.clock w.server.table (record { client = c; nonce = n; preferred = p }) ≡ Some q →
     ((step s (ClientHears c 0) (step s (ServerHears 0) (step s (Asks c n p) w))).clients c).holding ≡ taken s.term q (w.clients c).clock
 unfolding sent
-two-messages s w c n p q lends up fresh e =
+two_messages s w c n p q lends up fresh e =
     ap (λ (z : World). ((step s (ClientHears c 0) (step s (ServerHears 0) z)).clients c).holding) (cond-true ((w.clients c).up && not (elem n w.drawn)) w₁ w (and_from _ _ up (not_from_false _ fresh)))
     ∙ ap (λ (x : Answer). ((step s (ClientHears c 0) (replied s x w₁)).clients c).holding) (answers s w.server r q lends e)
     ∙ ap (λ (z : Client). z.holding) (cond-true (eqb c c) _ _ (eq-eqb c c refl))
@@ -89,24 +89,24 @@ two-messages s w c n p q lends up fresh e =
     me : w₁.clients c ≡ record { clock = (w.clients c).clock; up = (w.clients c).up; holding = record { uses = (w.clients c).holding.uses; waits = Some (record { nonce = n; asked = (w.clients c).clock }) } }
     me = cond-true (eqb c c) _ (w.clients c) (eq-eqb c c refl)
 
-pub can-have : CanHave
+pub can_have : CanHave
 unfolding world
-can-have s es c n p lends up fresh b m f =
+can_have s es c n p lends up fresh b m f =
     let r : Request = record { client = c; nonce = n; preferred = p } in
     let ch : Chosen s.addresses (world s es).server.clock (world s es).server.table r (choose s.addresses (world s es).server.clock (world s es).server.table r) = choosing s.addresses _ _ r in
     let q : (q : ℕ) × (choose s.addresses (world s es).server.clock (world s es).server.table r ≡ Some q) = ch.exists b m f in
-    (q.0, ch.below q.0 q.1, two-messages s (world s es) c n p q.0 lends up fresh q.1)
+    (q.0, ch.below q.0 q.1, two_messages s (world s es) c n p q.0 lends up fresh q.1)
 
 pub keeps : Keeps
 unfolding world
 keeps s es ag on c a n p lends fresh u =
     let r : Request = record { client = c; nonce = n; preferred = p } in
-    let x : Using s (Since s es c) (view (world s es) (sound s es ag).book) c ((world s es).clients c) (record { address = a; until = u.0 }) = uses-by s es ag c a u in
+    let x : Using s (Since s es c) (view (world s es) (sound s es ag).book) c ((world s es).clients c) (record { address = a; until = u.0 }) = uses_by s es ag c a u in
     let ch : Chosen s.addresses (world s es).server.clock (world s es).server.table r (choose s.addresses (world s es).server.clock (world s es).server.table r) = choosing s.addresses _ _ r in
     let up : ((world s es).server.up ≡ true) × ((world s es).server.silent ≡ None) = lending-parts _ _ lends in
     let t : (l : Lease) × ((world s es).server.table a ≡ Some l) × (l.client ≡ c) × ((world s es).server.up ≡ true → (world s es).server.clock ≤ l.expires) = in_table s es ag c a u up.1 in
     let mine : owned (world s es).server.clock c ((world s es).server.table a) ≡ true = owned-from _ c _ (record { lease = t.0; there = t.1; client = t.2; lives = t.3 up.0 }) in
     let q : (q : ℕ) × (choose s.addresses (world s es).server.clock (world s es).server.table r ≡ Some q) × (owned (world s es).server.clock c ((world s es).server.table q) ≡ true) =
     ch.own a ((tidy s es on).pooled a t.0 t.1) mine in
-    two-messages s (world s es) c n p q.0 lends x.up fresh q.1
+    two_messages s (world s es) c n p q.0 lends x.up fresh q.1
     ∙ ap (λ (z : ℕ). taken s.term z ((world s es).clients c).clock) ((tidy s es on).one c q.0 a q.2 mine)

@@ -14,10 +14,10 @@ use Rattle.lease.specs.World.{Message, Requests, Grants, Server, World, is_silen
 use Rattle.lease.specs.Run.{answer, serves, lends, crashes, with_server, forgets, restarts, replied, server_hears}
 use Rattle.lease.proofs.Options.{none-some, some_same}
 use Rattle.lease.proofs.Choosing.{laws}
-use Rattle.lease.proofs.Tidy.{free-live, forgotten-stays}
-use Rattle.lease.proofs.Claims.{In, view, Line, claim-on}
+use Rattle.lease.proofs.Tidy.{free-live, forgotten_stays}
+use Rattle.lease.proofs.Claims.{In, view, Line, claim_on}
 use Rattle.lease.proofs.Sound.{Moments, Sound, Agrees, Mine, Kept, sound-loses, server-does, same}
-use Rattle.lease.proofs.Answers.{GrantedBy, Meant, meant, not-silent}
+use Rattle.lease.proofs.Answers.{GrantedBy, Meant, meant, not_silent_lem}
 
 module _ (s : Settings) (S S' : Moments) (w : World) (k : Sound s S w) where
   abbrev v : Server
@@ -43,7 +43,7 @@ module _ (s : Settings) (S S' : Moments) (w : World) (k : Sound s S w) where
               hushed = hush;
               line = record { lease = q.line.lease; there = q.line.there; client = q.line.client; expires = omega (arith, q.line.expires) };
             }
-        | inr b ↦ claim-on (life s) (S c) (S' c) (view w k.book) _ c _ _ asked a (ks c) (omega arith) q b (λ u e. omega (arith, hush u e)) q.line
+        | inr b ↦ claim_on (life s) (S c) (S' c) (view w k.book) _ c _ _ asked a (ks c) (omega arith) q b (λ u e. omega (arith, hush u e)) q.line
       ])
       (λ c g own i. inl i)
 
@@ -54,7 +54,7 @@ module _ (s : Settings) (S S' : Moments) (w : World) (k : Sound s S w) where
       (λ e. restarted (record { clock = clock; up = true; silent = Some (clock + silence s); table = empty }) ks now
       (λ f. absurd (none-some _ (sym f))) (λ u f. let z : clock + silence s ≡ u = some_same _ _ f in omega arith))
       (λ e. restarted (record { clock = clock; up = true; silent = None; table = v.table }) ks now
-      (λ f. k.kept (not-silent _ (or_parts _ _ e).1)) (λ u f. absurd (none-some u f)))
+      (λ f. k.kept (not_silent_lem _ (or_parts _ _ e).1)) (λ u f. absurd (none-some u f)))
 
   -- what is over is forgotten: no claim rests on it
   pub server-forgets : ((c : ℕ) → Agrees s (S c) w c) → ((c : ℕ) → Kept S S' c) → (gone : ℕ → Bool) → Sound s S' (with_server (forgets gone v) w)
@@ -64,10 +64,10 @@ module _ (s : Settings) (S S' : Moments) (w : World) (k : Sound s S w) where
       (λ e a. ap (λ (o : Option Lease). cond (gone a && vacant v.clock o) None o) (k.kept e a)) k.nonces
       (λ d asked a d-up l x.
       let live : v.clock ≤ x.h + life s = ag d up x.t x.h x.moment x.seen (omega (arith, x.since)) in
-      claim-on (life s) (S d) (S' d) (view w k.book) _ d _ _ asked a (ks d) (omega arith) x x.past x.hushed
+      claim_on (life s) (S d) (S' d) (view w k.book) _ d _ _ asked a (ks d) (omega arith) x x.past x.hushed
       (record {
         lease = x.line.lease;
-        there = forgotten-stays v.clock gone k.book a x.line.lease x.line.there (omega (arith, live, x.line.expires));
+        there = forgotten_stays v.clock gone k.book a x.line.lease x.line.there (omega (arith, live, x.line.expires));
         client = x.line.client;
         expires = x.line.expires;
       }))
@@ -81,7 +81,7 @@ module _ (s : Settings) (S S' : Moments) (w : World) (k : Sound s S w) where
     grant-sound r g drawn by =
         server-does s S S' w k (lends s g v) book' (Grants g ∷ w.messages) (λ e a. ap (cond (eqb a g.address) (Some new)) (k.kept e a))
         (λ m. elim [ inl e ↦ rw (e, by.nonce) drawn | inr i ↦ k.nonces m i ])
-        (λ d asked a d-up l x. claim-on (life s) (S d) (S' d) (view w k.book) _ d _ _ asked a (ks d) (omega arith) x x.past x.hushed (lines d asked a l x))
+        (λ d asked a d-up l x. claim_on (life s) (S d) (S' d) (view w k.book) _ d _ _ asked a (ks d) (omega arith) x x.past x.hushed (lines d asked a l x))
         (λ d m own. elim [
           | inl e ↦
               let mg : m ≡ g = cc in
@@ -145,7 +145,7 @@ module _ (s : Settings) (S S' : Moments) (w : World) (k : Sound s S w) where
     hears-lost (Some (Grants g)) i = server-crashes ks
     hears-lost (Some (Requests r)) i = answer-lost r (k.nonces _ (i _ refl)) (answer s v r) (meant s v r)
 
-    pub server-hears-and-crashes : (o : Option Message) (wrote : Bool) → ((m : Message) → o ≡ Some m → In m w.messages) →
+    pub server-hears_and_crashes : (o : Option Message) (wrote : Bool) → ((m : Message) → o ≡ Some m → In m w.messages) →
         Sound s S' (with_server (crashes (cond wrote (server_hears s o w).server v)) w)
-    server-hears-and-crashes o true i = hears-lost o i
-    server-hears-and-crashes o false i = server-crashes ks
+    server-hears_and_crashes o true i = hears-lost o i
+    server-hears_and_crashes o false i = server-crashes ks

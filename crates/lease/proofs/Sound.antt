@@ -7,7 +7,7 @@ use Rattle.lease.specs.Settings.{Settings, life}
 use Rattle.lease.specs.Table.{Table, at}
 use Rattle.lease.specs.World.{Message, Requests, Grants, Server, Client, World, elem}
 use Rattle.lease.specs.Run.{crashes}
-use Rattle.lease.proofs.Claims.{In, View, view, Claim, Holds, Moves, holds_same, claim-on}
+use Rattle.lease.proofs.Claims.{In, View, view, Claim, Holds, Moves, holds_same, claim_on}
 
 abbrev pub nonce_of : Message → ℕ
 nonce_of (Requests r) = r.nonce
@@ -48,7 +48,7 @@ sound-loses s S w ms sub k =
             up = refl;
             clock = omega arith;
             drawn = λ n e. e;
-            claims = λ asked a x l q. claim-on (life s) (S c) (S c) (view w k.book) _ c _ _ asked a (λ t h m. m) (omega arith) q q.past q.hushed q.line;
+            claims = λ asked a x l q. claim_on (life s) (S c) (S c) (view w k.book) _ c _ _ asked a (λ t h m. m) (omega arith) q q.past q.hushed q.line;
             grants = λ g own i. inl (sub _ i);
           }) (k.holds c);
     }
@@ -76,12 +76,12 @@ module _ (s : Settings) (S S' : Moments) (w : World) (k : Sound s S w) where
       }
 
   -- a claim stays a claim where neither clock nor book changes
-  pub claim-stays : (c : ℕ) (ms : List Message) (drawn : List ℕ) → Kept S S' c → (asked a : ℕ) → Mine s S w k.book c asked a →
+  pub claim_stays : (c : ℕ) (ms : List Message) (drawn : List ℕ) → Kept S S' c → (asked a : ℕ) → Mine s S w k.book c asked a →
       Claim (life s) (S' c) (record { now = v.clock; hush = v.silent; book = k.book; messages = ms; drawn = drawn }) c (w.clients c).clock asked a
-  claim-stays c ms drawn ks asked a q = claim-on (life s) (S c) (S' c) (view w k.book) _ c _ _ asked a ks (omega arith) q q.past q.hushed q.line
+  claim_stays c ms drawn ks asked a q = claim_on (life s) (S c) (S' c) (view w k.book) _ c _ _ asked a ks (omega arith) q q.past q.hushed q.line
 
   pub same : ((c : ℕ) → Kept S S' c) → Sound s S' w
-  same ks = server-does v k.book w.messages k.kept k.nonces (λ c asked a x l q. claim-stays c w.messages w.drawn (ks c) asked a q) (λ c g own i. inl i)
+  same ks = server-does v k.book w.messages k.kept k.nonces (λ c asked a x l q. claim_stays c w.messages w.drawn (ks c) asked a q) (λ c g own i. inl i)
 
   -- one client does something
   pub client-does : (c : ℕ) (x : Client) (ms : List Message) (drawn : List ℕ) → ((d : ℕ) → eqb d c ≡ false → Kept S S' d) → ((n : ℕ) → elem n w.drawn ≡ true → elem n drawn ≡ true) →
@@ -107,6 +107,6 @@ module _ (s : Settings) (S S' : Moments) (w : World) (k : Sound s S w) where
             up = refl;
             clock = omega arith;
             drawn = on;
-            claims = λ asked a x l q. claim-stays d ms drawn ks asked a q;
+            claims = λ asked a x l q. claim_stays d ms drawn ks asked a q;
             grants = λ g own i. inl (old g i);
           }

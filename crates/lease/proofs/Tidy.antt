@@ -37,8 +37,8 @@ free-live now c o l e f g =
       | inr i ↦ absurd (both_ways (live now l) (not-true _ i) (le-leb _ _ g))
     ]
 
-owned-earlier : (now later c : ℕ) (o : Option Lease) → now ≤ later → owned later c o ≡ true → owned now c o ≡ true
-owned-earlier now later c o n e =
+owned_earlier : (now later c : ℕ) (o : Option Lease) → now ≤ later → owned later c o ≡ true → owned now c o ≡ true
+owned_earlier now later c o n e =
     let p : Owned later c o = owned-parts later c o e in
     owned-from now c o (record { lease = p.lease; there = p.there; client = p.client; lives = omega (arith, p.lives) })
 
@@ -46,7 +46,7 @@ pub one-empty : (now : ℕ) → OneEach now empty
 one-empty now c a b e = absurd (both_ways _ refl e)
 
 pub one_later : (now later : ℕ) (t : Table) → now ≤ later → OneEach now t → OneEach later t
-one_later now later t n k c a b e f = k c a b (owned-earlier now later c (t a) n e) (owned-earlier now later c (t b) n f)
+one_later now later t n k c a b e f = k c a b (owned_earlier now later c (t a) n e) (owned_earlier now later c (t b) n f)
 
 pub pooled-written : (pool : ℕ) (t : Table) (l : Lease) → l.address < pool → Pooled pool t → Pooled pool (written l t)
 pooled-written pool t l h k a m =
@@ -56,8 +56,8 @@ pooled-written pool t l h k a m =
 pub forgotten-from : (now : ℕ) (gone : ℕ → Bool) (t : Table) (a : ℕ) (l : Lease) → forgotten now gone t a ≡ Some l → t a ≡ Some l
 forgotten-from now gone t a l = cond_both (gone a && vacant now (t a)) None (t a) (λ x. x ≡ Some l → t a ≡ Some l) (λ e f. absurd (none-some l f)) (λ e f. f)
 
-pub forgotten-stays : (now : ℕ) (gone : ℕ → Bool) (t : Table) (a : ℕ) (l : Lease) → t a ≡ Some l → now ≤ l.expires → forgotten now gone t a ≡ Some l
-forgotten-stays now gone t a l e h =
+pub forgotten_stays : (now : ℕ) (gone : ℕ → Bool) (t : Table) (a : ℕ) (l : Lease) → t a ≡ Some l → now ≤ l.expires → forgotten now gone t a ≡ Some l
+forgotten_stays now gone t a l e h =
     let lives : vacant now (t a) ≡ false = ap (λ (o : Option Lease). vacant now o) e ∙ ap not (le-leb _ _ h) in
     cond-false (gone a && vacant now (t a)) None (t a) (and_right (gone a) _ lives) ∙ e
 

@@ -1,5 +1,5 @@
 ghost use Rattle.std.specs.Prelude.{◌≡◌};
-ghost use Rattle.lease.specs.Holding.{nothing, later as laterHeld, asking, taking};
+ghost use Rattle.lease.specs.Holding.{nothing, later as later_held, asking, taking};
 ghost use Rattle.std.specs.Option.{option_map};
 ghost use Rattle.lease.specs.Of.{use_of, wait_of, holding_of, map_ok};
 
@@ -95,7 +95,7 @@ impl Holding {
 
     // The clock shows `clock` now: an address whose time is over is used no more.
     pub fn tick(self, clock: Clock) -> Holding
-        ensures { holding_of result ≡ laterHeld clock.ticks (holding_of self) }
+        ensures { holding_of result ≡ later_held clock.ticks (holding_of self) }
     {
         let Some(using) = self.in_use() else {
             return self;

@@ -9,7 +9,7 @@ use Rattle.journal.specs.Place.{Blank}
 use Rattle.journal.specs.Device.{Device, Side, Row0, Row1, Cursor, cursor}
 use Rattle.journal.specs.Image.{Divided, device_of}
 use Rattle.journal.specs.Bytes.{place_of}
-use Rattle.journal.proofs.Codes.{zeros-are-blank}
+use Rattle.journal.proofs.Codes.{zeros_are_blank}
 use Rattle.system.specs.Parties.{blank}
 
 zeros-between : (n j : ℕ) → n ≡ 229376 → j < 8192 → between {X = ℕ} (j * 28) (j * 28 + 28) (replicate n 0) ≡ replicate 28 0
@@ -21,7 +21,7 @@ zeros-between n j e h =
 
 blank-at : (n j : ℕ) (bytes : List ℕ) (places : List (List ℕ)) → n ≡ 229376 → bytes ≡ replicate n 0 → Divided bytes places → j < 8192 → place_of (get_or places j []) ≡ Blank
 blank-at n j bytes places e z d h =
-    ap (λ (l : List ℕ). place_of l) (d.each j h ∙ ap (λ (l : List ℕ). between (j * 28) (j * 28 + 28) l) z ∙ zeros-between n j e h) ∙ zeros-are-blank
+    ap (λ (l : List ℕ). place_of l) (d.each j h ∙ ap (λ (l : List ℕ). between (j * 28) (j * 28 + 28) l) z ∙ zeros-between n j e h) ∙ zeros_are_blank
 
 pub blank-device : (n : ℕ) (bytes : List ℕ) (places : List (List ℕ)) → n ≡ 229376 → bytes ≡ replicate n 0 → Divided bytes places → device_of places ≡ blank
 blank-device n bytes places e z d = fun_ext (λ s. fun_ext (λ k. at_place s k)) where
@@ -30,6 +30,6 @@ blank-device n bytes places e z d = fun_ext (λ s. fun_ext (λ k. at_place s k))
   at_place Row1 k = cond_both (ltb k 4096) (place_of (get_or places (4096 + k) [])) Blank (λ q. q ≡ Blank) (λ t. let h : k < 4096 = ltb-true k 4096 t in blank-at n (4096 + k) bytes places e z d (omega arith)) (λ t. refl)
 
 -- and so its cursor is that of a new table
-pub blank-journal : (n : ℕ) (bytes : List ℕ) (places : List (List ℕ)) (c : Cursor) → n ≡ 229376 → bytes ≡ replicate n 0 → Divided bytes places → c ≡ cursor 4096 (device_of places) →
+pub blank_journal : (n : ℕ) (bytes : List ℕ) (places : List (List ℕ)) (c : Cursor) → n ≡ 229376 → bytes ≡ replicate n 0 → Divided bytes places → c ≡ cursor 4096 (device_of places) →
     (device_of places ≡ blank) × (c ≡ cursor 4096 blank)
-blank-journal n bytes places c e z d k = (blank-device n bytes places e z d, k ∙ ap (λ (f : Device). cursor 4096 f) (blank-device n bytes places e z d))
+blank_journal n bytes places c e z d k = (blank-device n bytes places e z d, k ∙ ap (λ (f : Device). cursor 4096 f) (blank-device n bytes places e z d))

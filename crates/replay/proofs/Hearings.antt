@@ -32,8 +32,8 @@ first-breaks e x z w v old new p q =
     (sets_back e x || apart v.settings v.leads) (unsent e w) (any_in (drawn e) w.nonces) (shares_number e z.parties) (differ v.settings (knows e z.parties)) (exhausts z.said)
     (q.clocks ∙ ap (λ (b : Bool). b || apart v.settings v.leads) p.clocks) (q.message ∙ p.message) (q.nonce ∙ p.nonce) q.number q.settings q.count
 
-abbrev played-to : Parties → Watch → (named shared : Bool) → Play
-played-to y v n s = record { parties = y; watch = v; named = n; shared = s }
+abbrev played_to : Parties → Watch → (named shared : Bool) → Play
+played_to y v n s = record { parties = y; watch = v; named = n; shared = s }
 
 listens : (p : Party) (bs : List ℕ) → p ≡ listener (event_of p bs)
 listens Server bs = refl
@@ -53,14 +53,14 @@ pub record Parted (judged : Bool) (e : Event) (p : Party) (z : Outcome) (h : Pla
   pub tick : o4 ≡ o3 ++ tick_lines e z
 
 module _ (judged : Bool) (e : Event) (p : Party) (z : Outcome) (h : Play) (b : Option Premise) (pair : Option Line) (v : Watch) (n s : Bool) (o0 o1 o2 o3 o4 : List Line) (k : Parted judged e p z h b pair v n s o0 o1 o2 o3 o4) where
-  breaks-it : b ≡ broken judged e z h
-  breaks-it = k.breaks ∙ ap (λ (u : Watch). breaks e h.parties z h.watch u) k.watch
+  breaks_it : b ≡ broken judged e z h
+  breaks_it = k.breaks ∙ ap (λ (u : Watch). breaks e h.parties z h.watch u) k.watch
 
-  plays-on : played-to z.parties v n s ≡ next_of judged e z h
-  plays-on =
-      ap (λ (u : Watch). played-to z.parties u n s) k.watch
-      ∙ ap (λ (x : Bool). played-to z.parties (watched judged e z h.watch) x s) (k.named ∙ ap (λ (o : Option Premise). h.named || is_some o) breaks-it)
-      ∙ ap (λ (x : Bool). played-to z.parties (watched judged e z h.watch) (h.named || is_some (broken judged e z h)) x) (k.shared ∙ ap (λ (l : List Line). h.shared || some l) k.shares)
+  plays_on : played_to z.parties v n s ≡ next_of judged e z h
+  plays_on =
+      ap (λ (u : Watch). played_to z.parties u n s) k.watch
+      ∙ ap (λ (x : Bool). played_to z.parties (watched judged e z h.watch) x s) (k.named ∙ ap (λ (o : Option Premise). h.named || is_some o) breaks_it)
+      ∙ ap (λ (x : Bool). played_to z.parties (watched judged e z h.watch) (h.named || is_some (broken judged e z h)) x) (k.shared ∙ ap (λ (l : List Line). h.shared || some l) k.shares)
 
   joined : (a b c d f : List Line) → (((a ++ b) ++ c) ++ d) ++ f ≡ a ++ (b ++ (c ++ (d ++ f)))
   joined a b c d f = simp append_assoc
@@ -70,26 +70,26 @@ module _ (judged : Bool) (e : Event) (p : Party) (z : Outcome) (h : Play) (b : O
       k.tick ∙ ap (λ (l : List Line). l ++ tick_lines e z) (k.two ∙ ap (λ (l : List Line). l ++ two_line h.shared (option_to_list pair)) (k.premise ∙ ap (λ (l : List Line). l ++ premise_line h.named b) k.faults))
       ∙ joined o0 (fault_lines p z.said) (premise_line h.named b) (two_line h.shared (option_to_list pair)) (tick_lines e z)
       ∙ ap (λ (q : Party). o0 ++ (fault_lines q z.said ++ (premise_line h.named b ++ (two_line h.shared (option_to_list pair) ++ tick_lines e z)))) k.listens
-      ∙ ap (λ (o : Option Premise). o0 ++ (fault_lines (listener e) z.said ++ (premise_line h.named o ++ (two_line h.shared (option_to_list pair) ++ tick_lines e z)))) breaks-it
+      ∙ ap (λ (o : Option Premise). o0 ++ (fault_lines (listener e) z.said ++ (premise_line h.named o ++ (two_line h.shared (option_to_list pair) ++ tick_lines e z)))) breaks_it
       ∙ ap (λ (l : List Line). o0 ++ (fault_lines (listener e) z.said ++ (premise_line h.named (broken judged e z h) ++ (two_line h.shared l ++ tick_lines e z)))) k.shares
 
-  pub parted-heard : z ≡ happens e h.parties → Heard judged e h (played-to z.parties v n s) o0 o4
-  parted-heard m = record {
-    play = plays-on ∙ ap (λ (o : Outcome). next_of judged e o h) m;
+  pub parted_heard : z ≡ happens e h.parties → Heard judged e h (played_to z.parties v n s) o0 o4
+  parted_heard m = record {
+    play = plays_on ∙ ap (λ (o : Outcome). next_of judged e o h) m;
     report = says_all ∙ ap (λ (o : Outcome). o0 ++ lines_of judged e o h) m;
   }
 
-outcome-is : (y : Parties) (said : List Message) (o : Outcome) → y ≡ o.parties → said ≡ o.said → record { parties = y; said = said } ≡ o
-outcome-is y said o a b = ap (λ (x : Parties). record { parties = x; said = said }) a ∙ ap (λ (l : List Message). record { parties = o.parties; said = l }) b
+outcome_is : (y : Parties) (said : List Message) (o : Outcome) → y ≡ o.parties → said ≡ o.said → record { parties = y; said = said } ≡ o
+outcome_is y said o a b = ap (λ (x : Parties). record { parties = x; said = said }) a ∙ ap (λ (l : List Message). record { parties = o.parties; said = l }) b
 
 pub step-heard : (judged : Bool) (p : Party) (bs : List ℕ) (h : Play) (y : Parties) (said : List Message) (v : Watch) (old new : Checks) (b : Option Premise) (pair : Option Line) (n s : Bool) (o0 o1 o2 o3 o4 : List Line) →
     Foreseen (event_of p bs) h.parties h.watch old → y ≡ (happens (event_of p bs) h.parties).parties → said ≡ (happens (event_of p bs) h.parties).said →
     v ≡ watched judged (event_of p bs) (record { parties = y; said = said }) h.watch → Checked (event_of p bs) y said v old new → b ≡ first_of new →
     o1 ≡ o0 ++ fault_lines p said → (n ≡ (h.named || is_some b)) × (o2 ≡ o1 ++ premise_line h.named b) → option_to_list pair ≡ sharing (event_of p bs) y →
     (s ≡ (h.shared || some (option_to_list pair))) × (o3 ≡ o2 ++ two_line h.shared (option_to_list pair)) →
-    o4 ≡ o3 ++ tick_lines (event_of p bs) (record { parties = y; said = said }) → Heard judged (event_of p bs) h (played-to y v n s) o0 o4
+    o4 ≡ o3 ++ tick_lines (event_of p bs) (record { parties = y; said = said }) → Heard judged (event_of p bs) h (played_to y v n s) o0 o4
 step-heard judged p bs h y said v old new b pair n s o0 o1 o2 o3 o4 a c d w q g i j k l m =
-    parted-heard judged (event_of p bs) p (record { parties = y; said = said }) h b pair v n s o0 o1 o2 o3 o4
+    parted_heard judged (event_of p bs) p (record { parties = y; said = said }) h b pair v n s o0 o1 o2 o3 o4
     (record {
       listens = listens p bs;
       watch = w;
@@ -102,4 +102,4 @@ step-heard judged p bs h y said v old new b pair n s o0 o1 o2 o3 o4 a c d w q g 
       two = l.1;
       tick = m;
     })
-    (outcome-is y said (happens (event_of p bs) h.parties) c d)
+    (outcome_is y said (happens (event_of p bs) h.parties) c d)

@@ -61,20 +61,20 @@ noted_here x k n o ls up sh e =
     ∙ shown-noted x.server.server.up ((x.clients k).state.holder.up && is_some (x.clients k).state.own) (x.clients k).state.holder.clock x.server.server.clock (ls k) up sh.early
 
 -- past the last place nobody has a number
-and-never : (s u : Bool) → (s && (u && false)) ≡ false
-and-never true true = refl
-and-never true false = refl
-and-never false u = refl
+and_never : (s u : Bool) → (s && (u && false)) ≡ false
+and_never true true = refl
+and_never true false = refl
+and_never false u = refl
 
 noted-past : (x : Parties) (k : ℕ) (ls : ℕ → Option watch.Lead) → x.clients k ≡ client.fresh → noted x ls k ≡ ls k
 noted-past x k ls e =
     ap (λ (c : client.Client). cond (x.server.server.up && (c.state.holder.up && is_some c.state.own)) (Some (widened (lead c.state.holder.clock x.server.server.clock) (ls k))) (ls k)) e
-    ∙ cond-false _ _ (ls k) (and-never x.server.server.up true)
+    ∙ cond-false _ _ (ls k) (and_never x.server.server.up true)
 
-pub moment-noted : (x : Parties) (cs : List code.Client) (clocks : List ℕ) (v : ℕ) (old xs : List (Option Lead)) → x.clients ≡ clients_of cs → length cs ≡ 65 → length old ≡ 65 → length xs ≡ 65 →
+pub moment_noted : (x : Parties) (cs : List code.Client) (clocks : List ℕ) (v : ℕ) (old xs : List (Option Lead)) → x.clients ≡ clients_of cs → length cs ≡ 65 → length old ≡ 65 → length xs ≡ 65 →
     x.server.server.up ≡ true → v ≡ x.server.server.clock → ((k : ℕ) → k < 65 → Shows (clients_of cs k) (get_or clocks k 0)) →
     ((k : ℕ) → k < 65 → leads_of xs k ≡ noted_by (get_or clocks k 0) v (leads_of old k)) → leads_of xs ≡ noted x (leads_of old)
-moment-noted x cs clocks v old xs z a b d up e sh f = fun_ext at_place where
+moment_noted x cs clocks v old xs z a b d up e sh f = fun_ext at_place where
   at_place : (k : ℕ) → leads_of xs k ≡ noted x (leads_of old) k
   at_place k = elim (cases_lt k 65) [
     | inl h ↦ noted_here x k (get_or clocks k 0) (leads_of xs k) (leads_of old) up (shown k h) (f k h ∙ ap (λ (m : ℕ). noted_by (get_or clocks k 0) m (leads_of old k)) e)

@@ -25,16 +25,16 @@ events-all bytes xs i h =
     drop-map event_of_part i (map (part_of bytes) xs) ∙ ap (λ (l : List Part). map event_of_part l) (drop-map (part_of bytes) i xs ∙ ap (λ (l : List Entry). map (part_of bytes) l) (drop_all i xs h))
 
 -- ticks
-ticks-by : (who : ℕ) (bs : List ℕ) → is_tick (called_by who bs) ≡ is_tick_in (read bs)
-ticks-by who bs = cond_both (eqb who 0) (ToServer bs) (ToClient who bs) (λ e. is_tick e ≡ is_tick_in (read bs)) (λ e. refl) (λ e. refl)
+ticks_by : (who : ℕ) (bs : List ℕ) → is_tick (called_by who bs) ≡ is_tick_in (read bs)
+ticks_by who bs = cond_both (eqb who 0) (ToServer bs) (ToClient who bs) (λ e. is_tick e ≡ is_tick_in (read bs)) (λ e. refl) (λ e. refl)
 
-pub tick-at : (bytes : List ℕ) (xs : List Entry) (i : ℕ) (d : Entry) (message : List ℕ) (b : Bool) → i < length xs → message ≡ (part_of bytes (get_or xs i d)).message → b ≡ is_tick_in (read message) →
+pub tick_at : (bytes : List ℕ) (xs : List Entry) (i : ℕ) (d : Entry) (message : List ℕ) (b : Bool) → i < length xs → message ≡ (part_of bytes (get_or xs i d)).message → b ≡ is_tick_in (read message) →
     b ≡ ticks_next (drop i (events_in bytes xs))
-tick-at bytes xs i d message b h m e =
-    e ∙ ap (λ (l : List ℕ). is_tick_in (read l)) m ∙ sym (ticks-by (get_or xs i d).who (part_of bytes (get_or xs i d)).message) ∙ ap (λ (l : List Event). ticks_next l) (sym (events-more bytes xs i d h))
+tick_at bytes xs i d message b h m e =
+    e ∙ ap (λ (l : List ℕ). is_tick_in (read l)) m ∙ sym (ticks_by (get_or xs i d).who (part_of bytes (get_or xs i d)).message) ∙ ap (λ (l : List Event). ticks_next l) (sym (events-more bytes xs i d h))
 
-pub no-tick-at : (bytes : List ℕ) (xs : List Entry) (i : ℕ) → length xs ≤ i → false ≡ ticks_next (drop i (events_in bytes xs))
-no-tick-at bytes xs i h = ap (λ (l : List Event). ticks_next l) (sym (events-all bytes xs i h))
+pub no_tick_at : (bytes : List ℕ) (xs : List Entry) (i : ℕ) → length xs ≤ i → false ≡ ticks_next (drop i (events_in bytes xs))
+no_tick_at bytes xs i h = ap (λ (l : List Event). ticks_next l) (sym (events-all bytes xs i h))
 
 judged_by : (es : List Event) → judged_at es ≡ not (ticks_next es && ticks_next (drop 1 es))
 judged_by [] = refl
@@ -68,8 +68,8 @@ play-turn bytes xs i d message b h k old new whole l m j r w =
     (subst (λ (bs : List ℕ). Heard b (called_by (get_or xs i d).who bs) h k old new) m r)
     ∙ ap (λ (es : List Event). old ++ played es h) (sym e) ∙ w
 
-pub play-end : (bytes : List ℕ) (xs : List Entry) (i : ℕ) (h : Play) (out whole : List Line) → length xs ≤ i → out ++ played (drop i (events_in bytes xs)) h ≡ whole → out ≡ whole
-play-end bytes xs i h out whole l w =
+pub play_end : (bytes : List ℕ) (xs : List Entry) (i : ℕ) (h : Play) (out whole : List Line) → length xs ≤ i → out ++ played (drop i (events_in bytes xs)) h ≡ whole → out ≡ whole
+play_end bytes xs i h out whole l w =
     sym (append-nil out) ∙ ap (λ (ls : List Line). out ++ ls) (sym (ap (λ (es : List Event). played es h) (events-all bytes xs i l) ∙ played-none h)) ∙ w
 
 -- every part is of somebody that there is

@@ -3,8 +3,8 @@ ghost use Rattle.std.specs.Option.{option_map, option_to_list};
 ghost use Rattle.lease.specs.Of.{settings_of};
 ghost use Rattle.lease.specs.World.{elem};
 ghost use Rattle.wire.specs.Read.{read};
-ghost use Rattle.client.specs.Nonces.{request as requestIn, requests as requestsIn};
-ghost use Rattle.system.specs.Watch.{anew, any_below, any_in, apart, differ as differing, drawn as drawing, granted, grant_of as grantIn, grants as grants_in, grants_by, leads_after, noted, or_first, requested, requests_by, unsent, unwatched, watched, wide};
+ghost use Rattle.client.specs.Nonces.{request as request_in, requests as requests_in};
+ghost use Rattle.system.specs.Watch.{anew, any_below, any_in, apart, differ as differing, drawn as drawing, granted, grant_of as grant_in, grants as grants_in, grants_by, leads_after, noted, or_first, requested, requests_by, unsent, unwatched, watched, wide};
 ghost use Rattle.replay.specs.Lead.{lead_of};
 ghost use Rattle.replay.specs.Parties.{Early, Placed, Shows, clients_of, event_of, parties_of};
 ghost use Rattle.replay.specs.Watch.{grants_of, is_judged, leads_of, nonces_of, noted_by, requests_of, stamp_of_grant, stamp_of_nonce, stamp_of_request, strange_grant, strange_request, watch_of};
@@ -102,7 +102,7 @@ fn is_unsent_grant(grants: &Seen, heard: Option<Message>) -> bool
 }
 
 fn note_request(requests: &mut Seen, message: Message) -> Result<(), AllocError>
-    ensures { OnOk result (requests_of requests.new ≡ requestIn message ++ requests_of requests.old) }
+    ensures { OnOk result (requests_of requests.new ≡ request_in message ++ requests_of requests.old) }
 {
     match message {
         Message::Request(request) => requests.insert(of_request(request)),
@@ -111,7 +111,7 @@ fn note_request(requests: &mut Seen, message: Message) -> Result<(), AllocError>
 }
 
 fn note_grant(grants: &mut Seen, message: Message) -> Result<(), AllocError>
-    ensures { OnOk result (grants_of grants.new ≡ grantIn message ++ grants_of grants.old) }
+    ensures { OnOk result (grants_of grants.new ≡ grant_in message ++ grants_of grants.old) }
 {
     match message {
         Message::Grant(grant) => grants.insert(of_grant(grant)),
@@ -121,7 +121,7 @@ fn note_grant(grants: &mut Seen, message: Message) -> Result<(), AllocError>
 
 // From the last on, so that the first is the newest.
 fn note_requests(requests: &mut Seen, said: &[Message]) -> Result<(), AllocError>
-    ensures { OnOk result (requests_of requests.new ≡ requestsIn said.now ++ requests_of requests.old) }
+    ensures { OnOk result (requests_of requests.new ≡ requests_in said.now ++ requests_of requests.old) }
 {
     for i in (0..said.len()).rev() {
         note_request(requests, said[i])?;

@@ -27,28 +27,28 @@ after-step q c Asks s h = record { clock = h.clock; waits = λ a e. omega (arith
 after-step q c (Takes asked term) s h = record { clock = h.clock; waits = λ a e. absurd (some-none a e) }
 
 -- while no address is lost, nothing is due before `q + 4`
-four-step : (q : ℕ) (c : Client) (e : Event) → Fits e c → starts c e ≡ false → loses c e ≡ false → After q c → q + 4 ≤ c.schedule.next → q + 4 ≤ (step e c).schedule.next
-four-step q c (Starts t) f s l h n = absurd (both_ways true s refl)
-four-step q c Ticks f s l h n =
+four_step : (q : ℕ) (c : Client) (e : Event) → Fits e c → starts c e ≡ false → loses c e ≡ false → After q c → q + 4 ≤ c.schedule.next → q + 4 ≤ (step e c).schedule.next
+four_step q c (Starts t) f s l h n = absurd (both_ways true s refl)
+four_step q c Ticks f s l h n =
     cond_both (over (c.clock + 1) c.uses) _ _ (λ (x : Client). q + 4 ≤ x.schedule.next)
     (λ e. absurd (both_ways _ l e))
     (λ e. n)
-four-step q c Asks f s l h n = omega (arith, h.clock, requested-least c.schedule c.clock c.uses)
-four-step q c (Takes asked term) f s l h n = omega (arith, h.waits asked f.0, renewal-least term)
+four_step q c Asks f s l h n = omega (arith, h.clock, requested-least c.schedule c.clock c.uses)
+four_step q c (Takes asked term) f s l h n = omega (arith, h.waits asked f.0, renewal-least term)
 
 -- while an address is used, nothing is due before `q + 60`
 Sixty : ℕ → Client → Type 0
 Sixty q c = (u : ℕ) → c.uses ≡ Some u → q + 60 ≤ c.schedule.next
 
-sixty-step : (q : ℕ) (c : Client) (e : Event) → Fits e c → starts c e ≡ false → After q c → Sixty q c → Sixty q (step e c)
+sixty_step : (q : ℕ) (c : Client) (e : Event) → Fits e c → starts c e ≡ false → After q c → Sixty q c → Sixty q (step e c)
 unfolding Sixty
-sixty-step q c (Starts t) f s h n = absurd (both_ways true s refl)
-sixty-step q c Ticks f s h n =
+sixty_step q c (Starts t) f s h n = absurd (both_ways true s refl)
+sixty_step q c Ticks f s h n =
     cond_both (over (c.clock + 1) c.uses) _ _ (λ (x : Client). Sixty q x)
     (λ e u g. absurd (some-none u g))
     (λ e. n)
-sixty-step q c Asks f s h n = λ u g. omega (arith, h.clock, requested-some c.schedule c.clock u c.uses g, renewal-least (u - c.clock))
-sixty-step q c (Takes asked term) f s h n = λ u g. omega (arith, h.waits asked f.0, renewal-least term)
+sixty_step q c Asks f s h n = λ u g. omega (arith, h.clock, requested-some c.schedule c.clock u c.uses g, renewal-least (u - c.clock))
+sixty_step q c (Takes asked term) f s h n = λ u g. omega (arith, h.waits asked f.0, renewal-least term)
 
 module _ (before : List Event) where
   asked-at : After (client before).clock (client (Asks ∷ before))
@@ -64,23 +64,23 @@ module _ (before : List Event) where
       (client before).clock + 4 ≤ (client (between ++ (Asks ∷ before))).schedule.next
   unfolding Never Lawful client
   four [] f s l = requested-least (client before).schedule (client before).clock (client before).uses
-  four (e ∷ es) f s l = four-step _ _ e f.0 s.0 l.0 (after es s.1) (four es f.1 s.1 l.1)
+  four (e ∷ es) f s l = four_step _ _ e f.0 s.0 l.0 (after es s.1) (four es f.1 s.1 l.1)
 
   sixty : (between : List Event) → Lawful (between ++ (Asks ∷ before)) → Never starts (Asks ∷ before) between →
       Sixty (client before).clock (client (between ++ (Asks ∷ before)))
   unfolding Never Lawful client Sixty
   sixty [] f s =
       λ u g. omega (arith, requested-some (client before).schedule (client before).clock u (client before).uses g, renewal-least (u - (client before).clock))
-  sixty (e ∷ es) f s = sixty-step _ _ e f.0 s.0 (after es s.1) (sixty es f.1 s.1)
+  sixty (e ∷ es) f s = sixty_step _ _ e f.0 s.0 (after es s.1) (sixty es f.1 s.1)
 
-pub four-apart : FourApart
+pub four_apart : FourApart
 unfolding Lawful
-four-apart before between f s l =
+four_apart before between f s l =
     let due : (client (between ++ (Asks ∷ before))).schedule.next ≤ (client (between ++ (Asks ∷ before))).clock = leb-true _ _ f.0 in
     omega (arith, four before between f.1 s l)
 
-pub sixty-apart : SixtyApart
+pub sixty_apart : SixtyApart
 unfolding Lawful Sixty
-sixty-apart before between f s until g =
+sixty_apart before between f s until g =
     let due : (client (between ++ (Asks ∷ before))).schedule.next ≤ (client (between ++ (Asks ∷ before))).clock = leb-true _ _ f.0 in
     omega (arith, sixty before between f.1 s until g)

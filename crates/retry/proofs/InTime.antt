@@ -12,20 +12,20 @@ use Rattle.retry.proofs.Steps.{some_same, some-none, lasts-within, requested-non
 Soon : Client → Type 0
 Soon c = c.uses ≡ None → c.schedule.next ≤ c.clock + 64
 
-soon-step : (c : Client) (e : Event) → Soon c → Soon (step e c)
+soon_step : (c : Client) (e : Event) → Soon c → Soon (step e c)
 unfolding Soon
-soon-step c (Starts t) h = λ g. omega arith
-soon-step c Ticks h =
+soon_step c (Starts t) h = λ g. omega arith
+soon_step c Ticks h =
     cond_both (over (c.clock + 1) c.uses) _ _ (λ (x : Client). Soon x)
     (λ e g. omega arith)
     (λ e g. omega (arith, h g))
-soon-step c Asks h = λ g. omega (arith, (requested-none c.schedule c.clock c.uses g).0, (lasts-within c.schedule.pause).1)
-soon-step c (Takes asked term) h = λ g. absurd (some-none (asked + term) (sym g))
+soon_step c Asks h = λ g. omega (arith, (requested-none c.schedule c.clock c.uses g).0, (lasts-within c.schedule.pause).1)
+soon_step c (Takes asked term) h = λ g. absurd (some-none (asked + term) (sym g))
 
 soon : (es : List Event) → Soon (client es)
 unfolding client Soon
 soon [] = λ g. omega arith
-soon (e ∷ es) = soon-step (client es) e (soon es)
+soon (e ∷ es) = soon_step (client es) e (soon es)
 
 -- no address, and a request due by `limit`
 record Idle (limit : ℕ) (c : Client) : Type 0 where
@@ -33,24 +33,24 @@ record Idle (limit : ℕ) (c : Client) : Type 0 where
   pub clock : c.clock ≤ limit
   pub next : c.schedule.next ≤ limit
 
-idle-step : (limit : ℕ) (c : Client) (e : Event) → starts c e ≡ false → takes c e ≡ false → tarries c e ≡ false → asks c e ≡ false → Idle limit c → Idle limit (step e c)
-idle-step limit c (Starts t) s k t' a h = absurd (both_ways true s refl)
-idle-step limit c Ticks s k t a h =
+idle_step : (limit : ℕ) (c : Client) (e : Event) → starts c e ≡ false → takes c e ≡ false → tarries c e ≡ false → asks c e ≡ false → Idle limit c → Idle limit (step e c)
+idle_step limit c (Starts t) s k t' a h = absurd (both_ways true s refl)
+idle_step limit c Ticks s k t a h =
     let early : c.clock < c.schedule.next = leb-false c.schedule.next c.clock t in
     cond_both (over (c.clock + 1) c.uses) _ _ (λ (x : Client). Idle limit x)
     (λ e. record { uses = refl; clock = omega (arith, h.next); next = omega (arith, h.next) })
     (λ e. record { uses = h.uses; clock = omega (arith, h.next); next = h.next })
-idle-step limit c Asks s k t a h = absurd (both_ways true a refl)
-idle-step limit c (Takes asked term) s k t a h = absurd (both_ways true k refl)
+idle_step limit c Asks s k t a h = absurd (both_ways true a refl)
+idle_step limit c (Takes asked term) s k t a h = absurd (both_ways true k refl)
 
 idle : (before between : List Event) → (client before).uses ≡ None → Never starts before between → Never takes before between → Never tarries before between →
     Never asks before between → Idle ((client before).clock + 64) (client (between ++ before))
 unfolding Never client Soon
 idle before [] u s k t a = record { uses = u; clock = omega arith; next = soon before u }
-idle before (e ∷ es) u s k t a = idle-step _ _ e s.0 k.0 t.0 a.0 (idle before es u s.1 k.1 t.1 a.1)
+idle before (e ∷ es) u s k t a = idle_step _ _ e s.0 k.0 t.0 a.0 (idle before es u s.1 k.1 t.1 a.1)
 
-pub pauses-end : PausesEnd
-pauses-end before between u s k t a = (idle before between u s k t a).clock
+pub pauses_end : PausesEnd
+pauses_end before between u s k t a = (idle before between u s k t a).clock
 
 renewal-most : (term : ℕ) → 60 ≤ term → renewal term ≤ term
 renewal-most term l =
@@ -106,7 +106,7 @@ taken : (before : List Event) (asked term : ℕ) → Lawful (Takes asked term �
 unfolding client Lawful
 taken before asked term f l = record { uses = refl; waits = refl; clock = f.0.1; next = omega (arith, renewal-most term l) }
 
-pub asks-in-time : AsksInTime
-asks-in-time before between asked term f l s t =
+pub asks_in_time : AsksInTime
+asks_in_time before between asked term f l s t =
     still (asked + term) (client (between ++ (Takes asked term ∷ before))) (AsksBy (asked + term) (Takes asked term ∷ before) between)
     (ahead (asked + term) (Takes asked term ∷ before) between (taken before asked term (fits-before between (Takes asked term ∷ before) f) l) f s t)

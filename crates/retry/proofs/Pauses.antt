@@ -29,8 +29,8 @@ doubled x =
           rw (e, f)
     ]
 
-pause-more : (p : Pause) (k : ℕ) → lasts p ≡ pause_at k → lasts (longer p) ≡ pause_at (suc k)
-pause-more p k e = longer-lasts p ∙ ap (λ n. min (2 * n) 64) e ∙ sym (ap (λ n. min (4 * n) 64) (pow-succ' 2 k) ∙ doubled (2 ^ k))
+pause_more : (p : Pause) (k : ℕ) → lasts p ≡ pause_at k → lasts (longer p) ≡ pause_at (suc k)
+pause_more p k e = longer-lasts p ∙ ap (λ n. min (2 * n) 64) e ∙ sym (ap (λ n. min (4 * n) 64) (pow-succ' 2 k) ∙ doubled (2 ^ k))
 
 over_none : (now : ℕ) (o : Option ℕ) → o ≡ None → over now o ≡ true → ⊥
 over_none now None e t = both_ways false refl t
@@ -64,17 +64,17 @@ record Unlent (k : ℕ) (c : Client) : Type 0 where
   pub uses : c.uses ≡ None
   pub pause : lasts c.schedule.pause ≡ pause_at k
 
-unlent-fresh : (c : Client) → Fresh c → Unlent 0 c
-unlent-fresh c h = record { uses = h.uses; pause = ap (λ (s : Schedule). lasts s.pause) h.schedule }
+unlent_fresh : (c : Client) → Fresh c → Unlent 0 c
+unlent_fresh c h = record { uses = h.uses; pause = ap (λ (s : Schedule). lasts s.pause) h.schedule }
 
-unlent-ticks : (k : ℕ) (c : Client) → Unlent k c → Unlent k (step Ticks c)
-unlent-ticks k c h = ticks-none c (λ (x : Client). Unlent k x) h.uses (record { uses = h.uses; pause = h.pause })
+unlent_ticks : (k : ℕ) (c : Client) → Unlent k c → Unlent k (step Ticks c)
+unlent_ticks k c h = ticks-none c (λ (x : Client). Unlent k x) h.uses (record { uses = h.uses; pause = h.pause })
 
-unlent-asks : (k : ℕ) (c : Client) → Unlent k c → Unlent (suc k) (step Asks c)
-unlent-asks k c h =
+unlent_asks : (k : ℕ) (c : Client) → Unlent k c → Unlent (suc k) (step Asks c)
+unlent_asks k c h =
     record {
       uses = h.uses;
-      pause = ap lasts (requested-none c.schedule c.clock c.uses h.uses).1 ∙ pause-more c.schedule.pause k h.pause;
+      pause = ap lasts (requested-none c.schedule c.clock c.uses h.uses).1 ∙ pause_more c.schedule.pause k h.pause;
     }
 
 -- its next request is due at `due`
@@ -93,17 +93,17 @@ set-step due c Asks s k a h = absurd (both_ways true a refl)
 set-step due c (Takes asked term) s k a h = absurd (both_ways true k refl)
 
 -- one event more of a stretch without a grant
-unlent-more : (c : Client) (e : Event) (es : List Event) → starts c e ≡ false → takes c e ≡ false → Unlent (requests es) c → Unlent (requests (e ∷ es)) (step e c)
+unlent_more : (c : Client) (e : Event) (es : List Event) → starts c e ≡ false → takes c e ≡ false → Unlent (requests es) c → Unlent (requests (e ∷ es)) (step e c)
 unfolding requests
-unlent-more c (Starts t) es s k h = absurd (both_ways true s refl)
-unlent-more c Ticks es s k h = unlent-ticks (requests es) c h
-unlent-more c Asks es s k h = unlent-asks (requests es) c h
-unlent-more c (Takes asked term) es s k h = absurd (both_ways true k refl)
+unlent_more c (Starts t) es s k h = absurd (both_ways true s refl)
+unlent_more c Ticks es s k h = unlent_ticks (requests es) c h
+unlent_more c Asks es s k h = unlent_asks (requests es) c h
+unlent_more c (Takes asked term) es s k h = absurd (both_ways true k refl)
 
 unlent : (begin during : List Event) → Begins begin → Never starts begin during → Never takes begin during → Unlent (requests during) (client (during ++ begin))
 unfolding Never client requests
-unlent begin [] b s k = unlent-fresh (client begin) (fresh begin b)
-unlent begin (e ∷ es) b s k = unlent-more (client (es ++ begin)) e es s.0 k.0 (unlent begin es b s.1 k.1)
+unlent begin [] b s k = unlent_fresh (client begin) (fresh begin b)
+unlent begin (e ∷ es) b s k = unlent_more (client (es ++ begin)) e es s.0 k.0 (unlent begin es b s.1 k.1)
 
 set : (due : ℕ) (before between : List Event) → Set due (client before) → Never starts before between → Never takes before between → Never asks before between →
     Set due (client (between ++ before))
@@ -116,8 +116,8 @@ unfolding Never client
 onward before [] s = omega arith
 onward before (e ∷ es) s = omega (arith, onward before es s.1, clock-step (client (es ++ before)) e s.0)
 
-pub due-at-once : DueAtOnce
-due-at-once begin between b s k a =
+pub due_at_once : DueAtOnce
+due_at_once begin between b s k a =
     let n : (client begin).schedule.next ≡ (client begin).clock = ap (λ (x : Schedule). x.next) (fresh begin b).schedule in
     let h : Set (client begin).clock (client (between ++ begin)) = set (client begin).clock begin between (record { uses = (fresh begin b).uses; next = n }) s k a in
     le-leb _ _ (omega (arith, h.next, onward begin between s))
@@ -127,8 +127,8 @@ after-request : (begin during : List Event) → Begins begin → Never starts be
 unfolding client
 after-request begin during b s k = set-asks (requests during) (client (during ++ begin)) (unlent begin during b s k)
 
-pub kth-pause : KthPause
-kth-pause begin during between b s k s' k' a =
+pub kth_pause : KthPause
+kth_pause begin during between b s k s' k' a =
     ap (λ n. leb n (client (between ++ (Asks ∷ (during ++ begin)))).clock) (set _ (Asks ∷ (during ++ begin)) between (after-request begin during b s k) s' k' a).next
 
 -- no address for `k` requests, the next due at `due`, and the clock not past that
@@ -137,41 +137,41 @@ record OnTime (k due : ℕ) (c : Client) : Type 0 where
   pub next : c.schedule.next ≡ due
   pub clock : c.clock ≤ due
 
-on-time-ticks : (k due : ℕ) (c : Client) → tarries c Ticks ≡ false → OnTime k due c → OnTime k due (step Ticks c)
-on-time-ticks k due c t h =
+on_time_ticks : (k due : ℕ) (c : Client) → tarries c Ticks ≡ false → OnTime k due c → OnTime k due (step Ticks c)
+on_time_ticks k due c t h =
     let early : c.clock < c.schedule.next = leb-false c.schedule.next c.clock t in
     ticks-none c (λ (x : Client). OnTime k due x) h.unlent.uses
     (record { unlent = record { uses = h.unlent.uses; pause = h.unlent.pause }; next = h.next; clock = omega (arith, h.next) })
 
-now-due : (k due : ℕ) (c : Client) → OnTime k due c → Fits Asks c → c.clock ≡ due
-now-due k due c h f = omega (arith, h.next, h.clock, leb-true c.schedule.next c.clock f)
+now_due : (k due : ℕ) (c : Client) → OnTime k due c → Fits Asks c → c.clock ≡ due
+now_due k due c h f = omega (arith, h.next, h.clock, leb-true c.schedule.next c.clock f)
 
-on-time-asks : (k due : ℕ) (c : Client) → Fits Asks c → OnTime k due c → OnTime (suc k) (due + pause_at k) (step Asks c)
-on-time-asks k due c f h =
-    let e : c.clock ≡ due = now-due k due c h f in
-    record { unlent = unlent-asks k c h.unlent; next = (set-asks k c h.unlent).next ∙ ap (λ n. n + pause_at k) e; clock = omega arith }
+on_time_asks : (k due : ℕ) (c : Client) → Fits Asks c → OnTime k due c → OnTime (suc k) (due + pause_at k) (step Asks c)
+on_time_asks k due c f h =
+    let e : c.clock ≡ due = now_due k due c h f in
+    record { unlent = unlent_asks k c h.unlent; next = (set-asks k c h.unlent).next ∙ ap (λ n. n + pause_at k) e; clock = omega arith }
 
-on-time-more : (b : ℕ) (c : Client) (e : Event) (es : List Event) → Fits e c → starts c e ≡ false → takes c e ≡ false → tarries c e ≡ false →
+on_time_more : (b : ℕ) (c : Client) (e : Event) (es : List Event) → Fits e c → starts c e ≡ false → takes c e ≡ false → tarries c e ≡ false →
     OnTime (requests es) (b + elapsed (requests es)) c → OnTime (requests (e ∷ es)) (b + elapsed (requests (e ∷ es))) (step e c)
 unfolding requests elapsed
-on-time-more b c (Starts t) es f s k t' h = absurd (both_ways true s refl)
-on-time-more b c Ticks es f s k t h = on-time-ticks (requests es) (b + elapsed (requests es)) c t h
-on-time-more b c Asks es f s k t h =
+on_time_more b c (Starts t) es f s k t' h = absurd (both_ways true s refl)
+on_time_more b c Ticks es f s k t h = on_time_ticks (requests es) (b + elapsed (requests es)) c t h
+on_time_more b c Asks es f s k t h =
     subst (λ n. OnTime (suc (requests es)) n (step Asks c)) (add_assoc b (elapsed (requests es)) (pause_at (requests es)))
-    (on-time-asks (requests es) (b + elapsed (requests es)) c f h)
-on-time-more b c (Takes asked term) es f s k t h = absurd (both_ways true k refl)
+    (on_time_asks (requests es) (b + elapsed (requests es)) c f h)
+on_time_more b c (Takes asked term) es f s k t h = absurd (both_ways true k refl)
 
-on-time : (begin during : List Event) → Begins begin → Lawful (during ++ begin) → Never starts begin during → Never takes begin during → Never tarries begin during →
+on_time : (begin during : List Event) → Begins begin → Lawful (during ++ begin) → Never starts begin during → Never takes begin during → Never tarries begin during →
     OnTime (requests during) ((client begin).clock + elapsed (requests during)) (client (during ++ begin))
 unfolding Never Lawful client requests elapsed
-on-time begin [] b f s k t =
+on_time begin [] b f s k t =
     let h : Fresh (client begin) = fresh begin b in
     let n : (client begin).schedule.next ≡ (client begin).clock = ap (λ (x : Schedule). x.next) h.schedule in
-    record { unlent = unlent-fresh (client begin) h; next = omega (arith, n); clock = omega arith }
-on-time begin (e ∷ es) b f s k t =
-    on-time-more (client begin).clock (client (es ++ begin)) e es f.0 s.0 k.0 t.0 (on-time begin es b f.1 s.1 k.1 t.1)
+    record { unlent = unlent_fresh (client begin) h; next = omega (arith, n); clock = omega arith }
+on_time begin (e ∷ es) b f s k t =
+    on_time_more (client begin).clock (client (es ++ begin)) e es f.0 s.0 k.0 t.0 (on_time begin es b f.1 s.1 k.1 t.1)
 
 pub timetable : Timetable
 unfolding Lawful
 timetable begin during b f s k t =
-    now-due (requests during) ((client begin).clock + elapsed (requests during)) (client (during ++ begin)) (on-time begin during b f.1 s k t) f.0
+    now_due (requests during) ((client begin).clock + elapsed (requests during)) (client (during ++ begin)) (on_time begin during b f.1 s k t) f.0

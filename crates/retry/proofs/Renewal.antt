@@ -8,8 +8,8 @@ use Rattle.retry.specs.Run.{Client, Event, Starts, Ticks, Asks, Takes, over, ste
 use Rattle.retry.specs.Pacing.{starts, asks, Never, Halfway}
 use Rattle.retry.proofs.Steps.{some_same, some-none, requested-some}
 
-half-past : (q now left : ℕ) → q ≤ now → leb (q + renewal left) now ≡ (leb 60 (now - q) && leb left (2 * (now - q)))
-half-past q now left l =
+half_past : (q now left : ℕ) → q ≤ now → leb (q + renewal left) now ≡ (leb 60 (now - q) && leb left (2 * (now - q)))
+half_past q now left l =
     elim (cases_lt (now - q) 60) [
       | inl f ↦ lt-leb _ _ (omega (arith, le-max_right ((left + 1) / 2) 60)) ∙ sym (and_left _ _ (lt-leb _ _ f))
       | inr g ↦ elim (cases_lt (2 * (now - q)) left) [
@@ -61,4 +61,4 @@ pub halfway : Halfway
 halfway before between until f s a g =
     let h : Last (client before).clock (client (between ++ (Asks ∷ before))) = last before between f s a in
     ap (λ n. leb n (client (between ++ (Asks ∷ before))).clock) (h.next until g) ∙
-    half-past (client before).clock (client (between ++ (Asks ∷ before))).clock (until - (client before).clock) h.clock
+    half_past (client before).clock (client (between ++ (Asks ∷ before))).clock (until - (client before).clock) h.clock

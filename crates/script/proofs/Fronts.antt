@@ -14,9 +14,9 @@ pub record Front (bytes : List ℕ) (n : ℕ) (entries : List Entry) : Type 0 wh
   pub within : Within bytes entries
   pub few : 2 * length entries ≤ n
 
-pub front-none : (bytes : List ℕ) (entries : List Entry) → entries ≡ [] → Front bytes 0 entries
+pub front_none : (bytes : List ℕ) (entries : List Entry) → entries ≡ [] → Front bytes 0 entries
 unfolding written
-front-none bytes entries e =
+front_none bytes entries e =
     let P : List Entry → Type 0 = λ es. Front bytes 0 es in
     subst P (sym e) (record { short = omega arith; whole = refl; known = tt; within = λ i d h. absurd (omega arith); few = omega arith })
 
@@ -36,8 +36,8 @@ take-add : (m n : ℕ) (xs : List ℕ) → take (m + n) xs ≡ take m xs ++ take
 take-add m n xs =
     sym (take-append-drop m (take (m + n) xs)) ∙ ap (λ (ys : List ℕ). ys ++ drop m (take (m + n) xs)) (take-take m (m + n) xs (omega arith)) ∙ ap (λ (ys : List ℕ). take m xs ++ ys) (drop-take m n xs)
 
-message-length : (bytes : List ℕ) (n : ℕ) (e : Entry) → Stands bytes n e → length (take e.len (drop e.at bytes)) ≡ e.len
-message-length bytes n e s = length-take-le e.len (drop e.at bytes) (omega (arith, length-drop e.at bytes, s.fits))
+message_length : (bytes : List ℕ) (n : ℕ) (e : Entry) → Stands bytes n e → length (take e.len (drop e.at bytes)) ≡ e.len
+message_length bytes n e s = length-take-le e.len (drop e.at bytes) (omega (arith, length-drop e.at bytes, s.fits))
 
 taken : (bytes : List ℕ) (n : ℕ) (e : Entry) → Stands bytes n e → take (e.at + e.len) bytes ≡ take n bytes ++ (e.who ∷ (e.len ∷ take e.len (drop e.at bytes)))
 taken bytes n e s =
@@ -57,11 +57,11 @@ within-push bytes es e k h i d l =
       | inr n ↦ let m : i < length es = omega (arith, length_push es e) in subst P (sym (get_or_append_left es (e ∷ []) d i m)) (k i d m)
     ]
 
-pub front-more : (bytes : List ℕ) (n : ℕ) (es fs : List Entry) (e : Entry) → fs ≡ es ++ e ∷ [] → Front bytes n es → Stands bytes n e → Front bytes (e.at + e.len) fs
-front-more bytes n es fs e same f s =
+pub front_more : (bytes : List ℕ) (n : ℕ) (es fs : List Entry) (e : Entry) → fs ≡ es ++ e ∷ [] → Front bytes n es → Stands bytes n e → Front bytes (e.at + e.len) fs
+front_more bytes n es fs e same f s =
     let P : List Entry → Type 0 = λ gs. Front bytes (e.at + e.len) gs in
     let p : Part = part_of bytes e in
-    let size = message-length bytes n e s in
+    let size = message_length bytes n e s in
     let pushed : map (part_of bytes) (es ++ e ∷ []) ≡ map (part_of bytes) es ++ p ∷ [] = map_push (part_of bytes) es e in
     subst P (sym same) (record {
       short = s.fits;
@@ -73,11 +73,11 @@ front-more bytes n es fs e same f s =
       few = omega (arith, length_push es e, f.few, s.place);
     })
 
-pub front-all : (bytes : List ℕ) (n : ℕ) (es : List Entry) → Front bytes n es → length bytes ≤ n → Reads bytes (map (part_of bytes) es)
-front-all bytes n es f h = record { whole = sym (take_all n bytes h) ∙ f.whole; known = f.known }
+pub front_all : (bytes : List ℕ) (n : ℕ) (es : List Entry) → Front bytes n es → length bytes ≤ n → Reads bytes (map (part_of bytes) es)
+front_all bytes n es f h = record { whole = sym (take_all n bytes h) ∙ f.whole; known = f.known }
 
-pub front-stuck : (bytes : List ℕ) (n : ℕ) (es : List Entry) → Front bytes n es → n < length bytes → (highest < get_or bytes n 0) ⊎ ((length bytes < n + 2) ⊎ (length bytes < n + 2 + get_or bytes (n + 1) 0)) → Stuck bytes n
-front-stuck bytes n es f h w =
+pub front_stuck : (bytes : List ℕ) (n : ℕ) (es : List Entry) → Front bytes n es → n < length bytes → (highest < get_or bytes n 0) ⊎ ((length bytes < n + 2) ⊎ (length bytes < n + 2 + get_or bytes (n + 1) 0)) → Stuck bytes n
+front_stuck bytes n es f h w =
     let long = length-drop n bytes in
     let first : get_or (drop n bytes) 0 0 ≡ get_or bytes (n + 0) 0 = get_or-drop n bytes 0 0 in
     let zero : n + 0 ≡ n = omega arith in

@@ -74,33 +74,33 @@ held-newest test key b (suc n) k =
     ])))
 
 -- the buckets after a stamp is added
-bucket-below : (xs : List Stamp) (x : Stamp) (j : ℕ) → j < length xs → bucket_at (xs ++ x ∷ []) j ≡ bucket_at xs j
-bucket-below xs x j h = ap (λ (s : Stamp). bucket_of s) (get_or_append_left xs (x ∷ []) blank j h)
+bucket_below : (xs : List Stamp) (x : Stamp) (j : ℕ) → j < length xs → bucket_at (xs ++ x ∷ []) j ≡ bucket_at xs j
+bucket_below xs x j h = ap (λ (s : Stamp). bucket_of s) (get_or_append_left xs (x ∷ []) blank j h)
 
-bucket-new : (xs : List Stamp) (x : Stamp) → bucket_at (xs ++ x ∷ []) (length xs) ≡ bucket_of x
-bucket-new xs x = ap (λ (s : Stamp). bucket_of s) (get_or_push xs x blank (length xs) refl)
+bucket_new : (xs : List Stamp) (x : Stamp) → bucket_at (xs ++ x ∷ []) (length xs) ≡ bucket_of x
+bucket_new xs x = ap (λ (s : Stamp). bucket_of s) (get_or_push xs x blank (length xs) refl)
 
 newest-below : (xs : List Stamp) (x : Stamp) (b n : ℕ) → n ≤ length xs → newest (bucket_at (xs ++ x ∷ [])) b n ≡ newest (bucket_at xs) b n
-newest-below xs x b n h = newest-same (bucket_at (xs ++ x ∷ [])) (bucket_at xs) b n (λ j l. bucket-below xs x j (omega arith))
+newest-below xs x b n h = newest-same (bucket_at (xs ++ x ∷ [])) (bucket_at xs) b n (λ j l. bucket_below xs x j (omega arith))
 
-linked-at : (xs : List Stamp) (ls : List ℕ) (x : Stamp) (p : ℕ) → length ls ≡ length xs → p ≡ newest (bucket_at xs) (bucket_of x) (length xs) → Linked xs ls → Linked (xs ++ x ∷ []) (ls ++ p ∷ [])
-linked-at xs ls x p same e k i h =
+linked_at : (xs : List Stamp) (ls : List ℕ) (x : Stamp) (p : ℕ) → length ls ≡ length xs → p ≡ newest (bucket_at xs) (bucket_of x) (length xs) → Linked xs ls → Linked (xs ++ x ∷ []) (ls ++ p ∷ [])
+linked_at xs ls x p same e k i h =
     let long = length_push xs x in
     elim (cases_eq i (length xs)) [
       | inl s ↦
           get_or_push ls p 0 i (same ∙ sym s) ∙ e
           ∙ sym (ap (λ (n : ℕ). newest (bucket_at (xs ++ x ∷ [])) (bucket_at (xs ++ x ∷ []) n) n) s
-          ∙ ap (λ (b : ℕ). newest (bucket_at (xs ++ x ∷ [])) b (length xs)) (bucket-new xs x)
+          ∙ ap (λ (b : ℕ). newest (bucket_at (xs ++ x ∷ [])) b (length xs)) (bucket_new xs x)
           ∙ newest-below xs x (bucket_of x) (length xs) (omega arith))
       | inr d ↦
           let l : i < length xs = omega arith in
           get_or_append_left ls (p ∷ []) 0 i (omega arith) ∙ k i l
-          ∙ sym (ap (λ (b : ℕ). newest (bucket_at (xs ++ x ∷ [])) b i) (bucket-below xs x i l) ∙ newest-below xs x (bucket_at xs i) i (omega arith))
+          ∙ sym (ap (λ (b : ℕ). newest (bucket_at (xs ++ x ∷ [])) b i) (bucket_below xs x i l) ∙ newest-below xs x (bucket_at xs i) i (omega arith))
     ]
 
-pub linked-push : (xs ys : List Stamp) (ls ks : List ℕ) (x : Stamp) (p : ℕ) → ys ≡ xs ++ x ∷ [] → ks ≡ ls ++ p ∷ [] → length ls ≡ length xs → p ≡ newest (bucket_at xs) (bucket_of x) (length xs) → Linked xs ls → Linked ys ks
-linked-push xs ys ls ks x p e f same h k =
-    subst (λ (zs : List Stamp). Linked zs ks) (sym e) (subst (λ (ms : List ℕ). Linked (xs ++ x ∷ []) ms) (sym f) (linked-at xs ls x p same h k))
+pub linked_push : (xs ys : List Stamp) (ls ks : List ℕ) (x : Stamp) (p : ℕ) → ys ≡ xs ++ x ∷ [] → ks ≡ ls ++ p ∷ [] → length ls ≡ length xs → p ≡ newest (bucket_at xs) (bucket_of x) (length xs) → Linked xs ls → Linked ys ks
+linked_push xs ys ls ks x p e f same h k =
+    subst (λ (zs : List Stamp). Linked zs ks) (sym e) (subst (λ (ms : List ℕ). Linked (xs ++ x ∷ []) ms) (sym f) (linked_at xs ls x p same h k))
 
 newest-push : (xs : List Stamp) (x : Stamp) (b : ℕ) → newest (bucket_at (xs ++ x ∷ [])) b (length (xs ++ x ∷ [])) ≡ cond (eqb (bucket_of x) b) (length xs + 1) (newest (bucket_at xs) b (length xs))
 unfolding newest
@@ -108,12 +108,12 @@ newest-push xs x b =
     let long : length (xs ++ x ∷ []) ≡ suc (length xs) = omega (arith, length_push xs x) in
     let one : suc (length xs) ≡ length xs + 1 = omega arith in
     ap (λ (n : ℕ). newest (bucket_at (xs ++ x ∷ [])) b n) long
-    ∙ ap (λ (q : ℕ). cond (eqb q b) (suc (length xs)) (newest (bucket_at (xs ++ x ∷ [])) b (length xs))) (bucket-new xs x)
+    ∙ ap (λ (q : ℕ). cond (eqb q b) (suc (length xs)) (newest (bucket_at (xs ++ x ∷ [])) b (length xs))) (bucket_new xs x)
     ∙ ap (λ (q : ℕ). cond (eqb (bucket_of x) b) (suc (length xs)) q) (newest-below xs x b (length xs) (omega arith))
     ∙ ap (λ (q : ℕ). cond (eqb (bucket_of x) b) q (newest (bucket_at xs) b (length xs))) one
 
-headed-at : (xs : List Stamp) (hs : List ℕ) (x : Stamp) (b p : ℕ) → length hs ≡ width → b < width → b ≡ bucket_of x → p ≡ length xs + 1 → Headed xs hs → Headed (xs ++ x ∷ []) (set hs b p)
-headed-at xs hs x b p wide within mine e k c h =
+headed_at : (xs : List Stamp) (hs : List ℕ) (x : Stamp) (b p : ℕ) → length hs ≡ width → b < width → b ≡ bucket_of x → p ≡ length xs + 1 → Headed xs hs → Headed (xs ++ x ∷ []) (set hs b p)
+headed_at xs hs x b p wide within mine e k c h =
     elim (cases_eq c b) [
       | inl s ↦
           ap (λ (n : ℕ). get_or (set hs b p) n 0) s ∙ get_or-set_same hs b p 0 (omega arith) ∙ e
@@ -123,13 +123,13 @@ headed-at xs hs x b p wide within mine e k c h =
           ∙ sym (newest-push xs x c ∙ cond-false (eqb (bucket_of x) c) (length xs + 1) (newest (bucket_at xs) c (length xs)) (ne_eqb (bucket_of x) c (λ f. d (sym f ∙ sym mine))))
     ]
 
-pub headed-push : (xs ys : List Stamp) (hs : List ℕ) (x : Stamp) (b p : ℕ) → ys ≡ xs ++ x ∷ [] → length hs ≡ width → b < width → b ≡ bucket_of x → p ≡ length xs + 1 → Headed xs hs → Headed ys (set hs b p)
-headed-push xs ys hs x b p e wide within mine count k = subst (λ (zs : List Stamp). Headed zs (set hs b p)) (sym e) (headed-at xs hs x b p wide within mine count k)
+pub headed_push : (xs ys : List Stamp) (hs : List ℕ) (x : Stamp) (b p : ℕ) → ys ≡ xs ++ x ∷ [] → length hs ≡ width → b < width → b ≡ bucket_of x → p ≡ length xs + 1 → Headed xs hs → Headed ys (set hs b p)
+headed_push xs ys hs x b p e wide within mine count k = subst (λ (zs : List Stamp). Headed zs (set hs b p)) (sym e) (headed_at xs hs x b p wide within mine count k)
 
-pub linked-none : (xs : List Stamp) (ls : List ℕ) → length xs ≡ 0 → Linked xs ls
-linked-none xs ls e i h = absurd (omega arith)
+pub linked_none : (xs : List Stamp) (ls : List ℕ) → length xs ≡ 0 → Linked xs ls
+linked_none xs ls e i h = absurd (omega arith)
 
-pub headed-none : (xs : List Stamp) (hs : List ℕ) → length xs ≡ 0 → hs ≡ replicate width 0 → Headed xs hs
+pub headed_none : (xs : List Stamp) (hs : List ℕ) → length xs ≡ 0 → hs ≡ replicate width 0 → Headed xs hs
 unfolding newest
-headed-none xs hs none e b h =
+headed_none xs hs none e b h =
     ap (λ (ys : List ℕ). get_or ys b 0) e ∙ get_or-replicate width b 0 0 h ∙ sym (ap (λ (n : ℕ). newest (bucket_at xs) b n) none)

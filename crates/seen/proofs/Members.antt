@@ -10,8 +10,8 @@ use Rattle.seen.specs.Chain.{blank}
 use Rattle.seen.specs.Laws.{In, MembersAreIn}
 use Rattle.seen.proofs.Chains.{held}
 
-pub reverse-push : {A : Type 0} (xs : List A) (x : A) → reverse (xs ++ x ∷ []) ≡ x ∷ reverse xs
-reverse-push xs x = reverse-append xs (x ∷ [])
+pub reverse_push_lem : {A : Type 0} (xs : List A) (x : A) → reverse (xs ++ x ∷ []) ≡ x ∷ reverse xs
+reverse_push_lem xs x = reverse-append xs (x ∷ [])
 
 abbrev stamp : (client nonce address : ℕ) → Stamp
 stamp c n a = record { client = c; nonce = n; address = a }
@@ -30,21 +30,21 @@ same_self x =
     and_from (eqb x.client x.client) (eqb x.nonce x.nonce && eqb x.address x.address) (eq-eqb x.client x.client refl)
     (and_from (eqb x.nonce x.nonce) (eqb x.address x.address) (eq-eqb x.nonce x.nonce refl) (eq-eqb x.address x.address refl))
 
-pub same-bucket : (x y : Stamp) → same x y ≡ true → bucket_of y ≡ bucket_of x
-same-bucket x y e = ap (λ (s : Stamp). bucket_of s) (sym (same-is x y e))
+pub same_bucket : (x y : Stamp) → same x y ≡ true → bucket_of y ≡ bucket_of x
+same_bucket x y e = ap (λ (s : Stamp). bucket_of s) (sym (same-is x y e))
 
-member-front : (x : Stamp) (xs : List Stamp) (n : ℕ) → n ≤ length xs → member x (reverse (take n xs)) ≡ held (λ j. same x (get_or xs j blank)) n
+member_front : (x : Stamp) (xs : List Stamp) (n : ℕ) → n ≤ length xs → member x (reverse (take n xs)) ≡ held (λ j. same x (get_or xs j blank)) n
 unfolding held member
-member-front x xs zero h = refl
-member-front x xs (suc n) h =
+member_front x xs zero h = refl
+member_front x xs (suc n) h =
     let one : suc n ≡ n + 1 = omega arith in
     ap (λ (m : ℕ). member x (reverse (take m xs))) one
     ∙ ap (λ (ys : List Stamp). member x (reverse ys)) (take_more xs n blank (omega arith))
-    ∙ ap (λ (ys : List Stamp). member x ys) (reverse-push (take n xs) (get_or xs n blank))
-    ∙ ap (λ (q : Bool). same x (get_or xs n blank) || q) (member-front x xs n (omega arith))
+    ∙ ap (λ (ys : List Stamp). member x ys) (reverse_push_lem (take n xs) (get_or xs n blank))
+    ∙ ap (λ (q : Bool). same x (get_or xs n blank) || q) (member_front x xs n (omega arith))
 
 pub member-held : (x : Stamp) (xs : List Stamp) → member x (reverse xs) ≡ held (λ j. same x (get_or xs j blank)) (length xs)
-member-held x xs = ap (λ (ys : List Stamp). member x (reverse ys)) (sym (take_all (length xs) xs (omega arith))) ∙ member-front x xs (length xs) (omega arith)
+member-held x xs = ap (λ (ys : List Stamp). member x (reverse ys)) (sym (take_all (length xs) xs (omega arith))) ∙ member_front x xs (length xs) (omega arith)
 
 found : (x : Stamp) (xs : List Stamp) → member x xs ≡ true → In x xs
 unfolding member
@@ -60,5 +60,5 @@ unfolding member
 front x [] zs = elim (same x x) as (λ v. same x x ≡ v → (v || member x zs) ≡ true) [ true ↦ λ e. refl | false ↦ λ e. absurd (both_ways (same x x) e (same_self x)) ] refl
 front x (y ∷ ys) zs = elim (same x y) as (λ v. (v || member x (ys ++ x ∷ zs)) ≡ true) [ true ↦ refl | false ↦ front x ys zs ]
 
-pub members-are-in : MembersAreIn
-members-are-in = record { found = found; there = λ x xs k. ap (λ (ys : List Stamp). member x ys) k.1.1 ∙ front x k.0 k.1.0 }
+pub members_are_in : MembersAreIn
+members_are_in = record { found = found; there = λ x xs k. ap (λ (ys : List Stamp). member x ys) k.1.1 ∙ front x k.0 k.1.0 }

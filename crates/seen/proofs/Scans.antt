@@ -6,7 +6,7 @@ use Rattle.seen.specs.declared.stamp.Stamp.{Stamp}
 use Rattle.seen.specs.Stamp.{bucket_of, member, same, width}
 use Rattle.seen.specs.Chain.{blank, bucket_at, newest, Headed, Linked}
 use Rattle.seen.proofs.Chains.{newest-within, newest-here, held, held_none, held_next, held-here, held-newest}
-use Rattle.seen.proofs.Members.{member-held, same-bucket}
+use Rattle.seen.proofs.Members.{member-held, same_bucket}
 
 -- whether the stamp at an index is this one
 abbrev is : Stamp → List Stamp → ℕ → Bool
@@ -23,7 +23,7 @@ from-newest x xs n h e =
     record {
       within = omega (arith, newest-within (bucket_at xs) (bucket_of x) n);
       mine = newest-here (bucket_at xs) (bucket_of x) n;
-      rest = held-newest (is x xs) (bucket_at xs) (bucket_of x) n (λ j t. same-bucket x (get_or xs j blank) t) ∙ e;
+      rest = held-newest (is x xs) (bucket_at xs) (bucket_of x) n (λ j t. same_bucket x (get_or xs j blank) t) ∙ e;
     }
 
 moved : (x : Stamp) (xs : List Stamp) (p q : ℕ) → p ≡ q → Scan x xs q → Scan x xs p
@@ -49,12 +49,12 @@ pub scan-found : (x : Stamp) (xs : List Stamp) (p : ℕ) (y : Stamp) (v : Bool) 
 scan-found x xs p y v s h got tested hit =
     sym (member-held x xs ∙ held-here (is x xs) (length xs) p h s.within (is_read x xs p y v h s.within got tested ∙ hit))
 
-pub scan-end : (x : Stamp) (xs : List Stamp) (p : ℕ) → Scan x xs p → p ≤ 0 → false ≡ member x (reverse xs)
-scan-end x xs p s h = let e : 0 ≡ p = omega arith in sym (held_none (is x xs)) ∙ ap (λ (n : ℕ). held (is x xs) n) e ∙ s.rest
+pub scan_end : (x : Stamp) (xs : List Stamp) (p : ℕ) → Scan x xs p → p ≤ 0 → false ≡ member x (reverse xs)
+scan_end x xs p s h = let e : 0 ≡ p = omega arith in sym (held_none (is x xs)) ∙ ap (λ (n : ℕ). held (is x xs) n) e ∙ s.rest
 
 -- a link leads back
-pub scan-back : (x : Stamp) (xs : List Stamp) (ls : List ℕ) (p q : ℕ) → length ls ≡ length xs → Linked xs ls → Scan x xs p → 0 < p → q ≡ get_or ls (p - 1) q → q < p
-scan-back x xs ls p q long linked s h read =
+pub scan_back : (x : Stamp) (xs : List Stamp) (ls : List ℕ) (p q : ℕ) → length ls ≡ length xs → Linked xs ls → Scan x xs p → 0 < p → q ≡ get_or ls (p - 1) q → q < p
+scan_back x xs ls p q long linked s h read =
     let l : p ≤ length xs = s.within in
     let e : q ≡ newest (bucket_at xs) (bucket_at xs (p - 1)) (p - 1) = get_or_read ls (p - 1) q (omega arith) read 0 ∙ linked (p - 1) (omega arith) in
     omega (arith, newest-within (bucket_at xs) (bucket_at xs (p - 1)) (p - 1))

@@ -25,8 +25,8 @@ module _ (now c : ℕ) where
   free-kept (Some l) =
       cond_both (kept now l) (Some l) None (λ q. free now c (Some l) ≡ free now c q) (λ e. refl) (λ e. or_right (eqb l.client c) (not (live now l)) (not_from_false (live now l) e))
 
-  by-kept : (f : Option Lease → Bool) → ((e : Option Lease) → f e ≡ f (kept_of now e)) → (o p : Option Lease) → kept_of now o ≡ kept_of now p → f o ≡ f p
-  by-kept f h o p e = h o ∙ ap f e ∙ sym (h p)
+  by_kept : (f : Option Lease → Bool) → ((e : Option Lease) → f e ≡ f (kept_of now e)) → (o p : Option Lease) → kept_of now o ≡ kept_of now p → f o ≡ f p
+  by_kept f h o p e = h o ∙ ap f e ∙ sym (h p)
 
 lowest-same : (f g : ℕ → Bool) (a k : ℕ) → ((j : ℕ) → j < a + k → f j ≡ g j) → lowest f a k ≡ lowest g a k
 unfolding lowest
@@ -51,7 +51,7 @@ module _ (n now : ℕ) (t u : Table) (r : Request) (h : Agree n now t u) where
   preferred-same =
       elim (cases_Bool (ltb r.preferred n)) [
         | inl e ↦ ap (λ (b : Bool). cond (ltb r.preferred n && b) (Some r.preferred) None)
-            (by-kept now c (free now c) (free-kept now c) (t r.preferred) (u r.preferred) (h r.preferred (ltb-true r.preferred n e)))
+            (by_kept now c (free now c) (free-kept now c) (t r.preferred) (u r.preferred) (h r.preferred (ltb-true r.preferred n e)))
         | inr e ↦
             ap (λ (b : Bool). cond (b && free now c (t r.preferred)) (Some r.preferred) None) e
             ∙ sym (ap (λ (b : Bool). cond (b && free now c (u r.preferred)) (Some r.preferred) None) e)
@@ -59,9 +59,9 @@ module _ (n now : ℕ) (t u : Table) (r : Request) (h : Agree n now t u) where
 
   pub choose-same : choose n now t r ≡ choose n now u r
   choose-same =
-      ap (λ (o : Option ℕ). or_else o (or_else (preferred t) (vacancy t))) (lowest-same (λ a. owned now c (t a)) (λ a. owned now c (u a)) 0 n (λ j l. by-kept now c (owned now c) (owned-kept now c) (t j) (u j) (h j (omega arith))))
+      ap (λ (o : Option ℕ). or_else o (or_else (preferred t) (vacancy t))) (lowest-same (λ a. owned now c (t a)) (λ a. owned now c (u a)) 0 n (λ j l. by_kept now c (owned now c) (owned-kept now c) (t j) (u j) (h j (omega arith))))
       ∙ ap (λ (o : Option ℕ). or_else (own u) (or_else o (vacancy t))) preferred-same
-      ∙ ap (λ (o : Option ℕ). or_else (own u) (or_else (preferred u) o)) (lowest-same (λ a. vacant now (t a)) (λ a. vacant now (u a)) 0 n (λ j l. by-kept now c (vacant now) (vacant-kept now c) (t j) (u j) (h j (omega arith))))
+      ∙ ap (λ (o : Option ℕ). or_else (own u) (or_else (preferred u) o)) (lowest-same (λ a. vacant now (t a)) (λ a. vacant now (u a)) 0 n (λ j l. by_kept now c (vacant now) (vacant-kept now c) (t j) (u j) (h j (omega arith))))
 
 abbrev pub server_at : (clock : ℕ) (up : Bool) → Option ℕ → Table → Server
 server_at clock up o t = record { clock = clock; up = up; silent = o; table = t }

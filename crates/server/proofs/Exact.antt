@@ -11,11 +11,11 @@ use Rattle.journal.specs.Device.{Side, Device, Cursor, cursor, high, leases, oth
 use Rattle.journal.specs.Append.{Plan, Write, in_other, in_row, perform, plan, put, writes}
 use Rattle.journal.specs.Crash.{Cut, Damaged, Untouched, cut_at, done, lands}
 use Rattle.journal.specs.Laws.{Begun, Ready, Settled, Sound}
-use Rattle.journal.proofs.Tables.{keeping-agrees, keeping_none, kept-some, laid, laid-push, length-keeping}
+use Rattle.journal.proofs.Tables.{keeping-agrees, keeping_none, kept-some, laid, laid_push, length_keeping}
 use Rattle.journal.proofs.Reading.{begun-broken, none_read}
-use Rattle.journal.proofs.Choosing.{below-high, damaged-found, damaged-leases, settled-cursor, settled-leases, unbegun}
-use Rattle.journal.proofs.Progress.{Progress, cut, length-numbered}
-use Rattle.journal.proofs.Appends.{append-survives}
+use Rattle.journal.proofs.Choosing.{below-high, damaged_found, damaged_leases, settled-cursor, settled-leases, unbegun}
+use Rattle.journal.proofs.Progress.{Progress, cut, length_numbered}
+use Rattle.journal.proofs.Appends.{append_survives}
 use Rattle.journal.proofs.Runs.{reread}
 
 pub kept-all : (e : Option Lease) → kept_of 0 e ≡ e
@@ -61,10 +61,10 @@ module _ (R n now : ℕ) (d : Device) (c : Cursor) (u : Table) (x : Lease) (room
   anew = plan R n 0 (cursor R d) (leases R d)
 
   -- where the plan is what it would be for the device's own leases
-  by-device : (p : Plan) → p ≡ anew → Exactly n (leases R (left p)) (with? (landed p) x (leases R d))
-  by-device p e a l =
+  by_device : (p : Plan) → p ≡ anew → Exactly n (leases R (left p)) (with? (landed p) x (leases R d))
+  by_device p e a l =
       subst (λ (q : Plan). leases R (left q) a ≡ with? (landed q) x (leases R d) a) (sym e)
-      (sym (kept-all (leases R (left anew) a)) ∙ (append-survives R n 0 0 d (cursor R d) (leases R d) x i k room (omega arith) (reread R n 0 d r.sound)).table a l ∙ kept-all (with? (landed anew) x (leases R d) a))
+      (sym (kept-all (leases R (left anew) a)) ∙ (append_survives R n 0 0 d (cursor R d) (leases R d) x i k room (omega arith) (reread R n 0 d r.sound)).table a l ∙ kept-all (with? (landed anew) x (leases R d) a))
 
   same_row : ltb c.count R ≡ true → plan R n now c u ≡ anew
   same_row e =
@@ -74,7 +74,7 @@ module _ (R n now : ℕ) (d : Device) (c : Cursor) (u : Table) (x : Lease) (room
   same_new : Damaged R d → ltb c.count R ≡ false → plan R n now c u ≡ anew
   same_new w e =
       let ks : keeping now u n ≡ keeping 0 (leases R d) n =
-      keeping_none now u n (r.none (damaged-found R d w)) ∙ sym (keeping_none 0 (leases R d) n (λ a. ap (λ (t : Table). t a) (damaged-leases R d w))) in
+      keeping_none now u n (r.none (damaged_found R d w)) ∙ sym (keeping_none 0 (leases R d) n (λ a. ap (λ (t : Table). t a) (damaged_leases R d w))) in
       cond-false (ltb c.count R) (in_row c) (in_other n now c u) e ∙ ap (λ (v : Cursor). in_other n now v u) r.same
       ∙ ap (λ (xs : List Lease). record { side = other (cursor R d).side; place = 0; first = suc (cursor R d).highest; base = length xs; copied = xs }) ks
       ∙ sym (cond-false (ltb (cursor R d).count R) (in_row (cursor R d)) (in_other n 0 (cursor R d) (leases R d)) (ap (λ (v : Cursor). ltb v.count R) (sym r.same) ∙ e))
@@ -83,10 +83,10 @@ module _ (R n now : ℕ) (d : Device) (c : Cursor) (u : Table) (x : Lease) (room
   copied = keeping now u n
 
   few : length copied < R
-  few = let z : length copied ≤ n = length-keeping now u n in omega arith
+  few = let z : length copied ≤ n = length_keeping now u n in omega arith
 
-  all-length : length (copied ++ (x ∷ [])) ≡ suc (length copied)
-  all-length = let z : length (copied ++ (x ∷ [])) ≡ length copied + 1 = length-append copied (x ∷ []) in omega arith
+  all_length : length (copied ++ (x ∷ [])) ≡ suc (length copied)
+  all_length = let z : length (copied ++ (x ∷ [])) ≡ length copied + 1 = length-append copied (x ∷ []) in omega arith
 
   abbrev switched : Side → Plan
   switched s = record { side = other s; place = 0; first = suc (high R d); base = length copied; copied = copied }
@@ -151,8 +151,8 @@ module _ (R n now : ℕ) (d : Device) (c : Cursor) (u : Table) (x : Lease) (room
     written_over : (e : Device) → Begins e (suc (length copied)) → Exactly n (leases R e) (set x (kept_in now (leases R d)))
     written_over e p a m =
         in-new e (suc (length copied)) p (omega arith) (omega arith) (omega arith) a
-        ∙ ap (λ (xs : List Lease). laid xs empty a) (take_all (suc (length copied)) (copied ++ (x ∷ [])) (omega (arith, all-length)))
-        ∙ ap (λ (y : Table). y a) (laid-push copied x empty) ∙ set_both x (laid copied empty) (kept_in now (leases R d)) a (in_kept a m)
+        ∙ ap (λ (xs : List Lease). laid xs empty a) (take_all (suc (length copied)) (copied ++ (x ∷ [])) (omega (arith, all_length)))
+        ∙ ap (λ (y : Table). y a) (laid_push copied x empty) ∙ set_both x (laid copied empty) (kept_in now (leases R d)) a (in_kept a m)
 
     abbrev Either : Plan → Type 0
     Either p = Exactly n (leases R (left p)) (with? (landed p) x (leases R d)) ⊎ Exactly n (leases R (left p)) (with? (landed p) x (kept_in now (leases R d)))
@@ -172,17 +172,17 @@ module _ (R n now : ℕ) (d : Device) (c : Cursor) (u : Table) (x : Lease) (room
     switch : Either (switched s)
     switch =
         let p : Plan = switched s in
-        let o : length (writes p x) ≡ length (copied ++ (x ∷ [])) = length-numbered v 0 (suc (high R d) + 0) (length copied) (copied ++ (x ∷ [])) in
+        let o : length (writes p x) ≡ length (copied ++ (x ∷ [])) = length_numbered v 0 (suc (high R d) + 0) (length copied) (copied ++ (x ∷ [])) in
         let g : Begins (left p) (min (done i k) (length (copied ++ (x ∷ [])))) =
         cut R v (suc (high R d)) (length copied) d 0 (suc (high R d) + 0) (copied ++ (x ∷ [])) i k refl (unbegun R (d v) (high R d) (length copied) (below-high R d v)) in
         elim (cases_Bool (landed p)) [
           | inl y ↦
               let j : length (writes p x) ≤ done i k = leb-true (length (writes p x)) (done i k) y in
-              inr (λ a m. written_over (left p) (subst (Begins (left p)) {x = min (done i k) (length (copied ++ (x ∷ [])))} {y = suc (length copied)} (omega (arith, all-length)) g) a m
+              inr (λ a m. written_over (left p) (subst (Begins (left p)) {x = min (done i k) (length (copied ++ (x ∷ [])))} {y = suc (length copied)} (omega (arith, all_length)) g) a m
               ∙ ap (λ (w : Table). w a) (sym (cond-true (landed p) (set x (kept_in now (leases R d))) (kept_in now (leases R d)) y)))
           | inr y ↦
               let j : done i k < length (writes p x) = leb-false (length (writes p x)) (done i k) y in
-              not_yet (left p) (min (done i k) (length (copied ++ (x ∷ [])))) (landed p) y g (omega (arith, all-length))
+              not_yet (left p) (min (done i k) (length (copied ++ (x ∷ [])))) (landed p) y g (omega (arith, all_length))
         ]
 
   abbrev Leaves : Plan → Type 0
@@ -192,9 +192,9 @@ module _ (R n now : ℕ) (d : Device) (c : Cursor) (u : Table) (x : Lease) (room
   pub leaves : Leaves (plan R n now c u)
   leaves =
       elim (cases_Bool (ltb c.count R)) [
-        | inl e ↦ inl (by-device (plan R n now c u) (same_row e))
+        | inl e ↦ inl (by_device (plan R n now c u) (same_row e))
         | inr e ↦ elim r.sound [
-          | inl w ↦ inl (by-device (plan R n now c u) (same_new w e))
+          | inl w ↦ inl (by_device (plan R n now c u) (same_new w e))
           | inr q ↦
               let g : c ≡ record { side = q.0; first = q.2; count = q.1; base = q.3; highest = high R d } = r.same ∙ settled-cursor R d q.0 q.1 q.2 q.3 q.4 (high R d) refl in
               let h : R ≤ c.count = ltb-false c.count R e in
@@ -204,7 +204,7 @@ module _ (R n now : ℕ) (d : Device) (c : Cursor) (u : Table) (x : Lease) (room
       ]
 
   pub sound-left : Sound R (left (plan R n now c u))
-  sound-left = (append-survives R n now now d c u x i k room (omega arith) r).sound
+  sound-left = (append_survives R n now now d c u x i k room (omega arith) r).sound
 
 -- a whole append is one that is cut behind its last write
 pub whole-cut : (ws : List Write) (d : Device) → perform ws d ≡ cut_at (length ws) Untouched ws d

@@ -20,22 +20,22 @@ use Rattle.journal.proofs.Choosing.{choice-tells}
 use Rattle.server.specs.Server.{State, Step, answers, fresh, hears, is_lost, pooled, refuses, silently, understood, with_server}
 use Rattle.server.specs.Refines.{AllFrom, Asking, Cause, Crashes, Embeds, Event, Forgets, Hears, HearsAndCrashes, Passes, Refines, Restarts, Time, cause_in, grant_by, model_of, occur, occurs, sends, sent}
 use Rattle.server.specs.Follows.{Begins, Follows, GoesOn, NoTwo, RunGoesOn, RunIsCut, RunTicks, Sent, sent_on}
-use Rattle.server.proofs.Refining.{cut-refines-all, events-of-runs, pooled-none, settling-stands, step-refines, tick-stands, ticks-on}
+use Rattle.server.proofs.Refining.{cut-refines-all, events-of_runs, pooled-none, settling-stands, step-refines, tick_stands, ticks-on}
 
 -- what was sent stays so
-still-sent : (i : ℕ) (m : world.Message) (a : lent.Answer) (ms : List world.Message) → world.sent i ms ≡ Some m → (j : ℕ) × (world.sent j (run.replies a ms) ≡ Some m)
+still_sent : (i : ℕ) (m : world.Message) (a : lent.Answer) (ms : List world.Message) → world.sent i ms ≡ Some m → (j : ℕ) × (world.sent j (run.replies a ms) ≡ Some m)
 unfolding world.sent
-still-sent i m Unheard ms e = (i, e)
-still-sent i m (Granted g) ms e = (suc i, e)
-still-sent i m (Refused f) ms e = (i, e)
+still_sent i m Unheard ms e = (i, e)
+still_sent i m (Granted g) ms e = (suc i, e)
+still_sent i m (Refused f) ms e = (i, e)
 
 pub replies-on : (a : lent.Answer) (gs : List given.Grant) (ms : List world.Message) → sent_on (grant_by a ++ gs) ms ≡ sent_on gs (run.replies a ms)
 replies-on Unheard gs ms = refl
 replies-on (Granted g) gs ms = refl
 replies-on (Refused f) gs ms = refl
 
-no-two : (k : model.Settings) (es : List run.Event) → NoTwo k es
-no-two k es = never_two k es
+no_two : (k : model.Settings) (es : List run.Event) → NoTwo k es
+no_two k es = never_two k es
 
 module _ (k : model.Settings) (o : Cause) (untimed : o ≡ Time → ⊥) where
   -- the run after more events of the server
@@ -72,18 +72,18 @@ module _ (k : model.Settings) (o : Cause) (untimed : o ≡ Time → ⊥) where
   lift (Hears r ∷ evs) es v same h req =
       let i : Sent k es r = req r h.0 in
       let w : world.World = run.world k es in
-      let b : Embeds k w = events-of-runs k w in
+      let b : Embeds k w = events-of_runs k w in
       let m : (run.step k (run.ServerHears i.0) w).messages ≡ run.replies (answer k v r) w.messages =
       (b.hears i.0 r i.1).1 ∙ ap (λ (y : world.Server). run.replies (answer k y r) w.messages) same in
       one_more (Hears r) evs (run.ServerHears i.0) es v (ap (λ (q : Option world.Message). (run.server_hears k q w).clients) i.1)
       (λ gs. ap (sent_on gs) m ∙ sym (replies-on (answer k v r) gs w.messages))
       (lift evs (run.ServerHears i.0 ∷ es) (occurs k (Hears r) v) ((b.hears i.0 r i.1).0 ∙ ap (occurs k (Hears r)) same) h.1
-      (λ q e. subst (λ (l : List world.Message). (j : ℕ) × (world.sent j l ≡ Some (world.Requests q))) (sym m) (still-sent (req q e).0 (world.Requests q) (answer k v r) w.messages (req q e).1)))
+      (λ q e. subst (λ (l : List world.Message). (j : ℕ) × (world.sent j l ≡ Some (world.Requests q))) (sym m) (still_sent (req q e).0 (world.Requests q) (answer k v r) w.messages (req q e).1)))
   lift (HearsAndCrashes r wrote ∷ evs) es v same h req =
       let i : Sent k es r = req r h.0 in
       one_more (HearsAndCrashes r wrote) evs (run.ServerHearsAndCrashes i.0 wrote) es v refl (λ gs. refl)
       (lift evs (run.ServerHearsAndCrashes i.0 wrote ∷ es) (occurs k (HearsAndCrashes r wrote) v)
-      ((events-of-runs k (run.world k es)).hears_and_crashes i.0 r wrote i.1 ∙ ap (occurs k (HearsAndCrashes r wrote)) same) h.1 req)
+      ((events-of_runs k (run.world k es)).hears_and_crashes i.0 r wrote i.1 ∙ ap (occurs k (HearsAndCrashes r wrote)) same) h.1 req)
   lift (Crashes ∷ evs) es v same h req =
       one_more Crashes evs run.ServerCrashes es v refl (λ gs. refl) (lift evs (run.ServerCrashes ∷ es) (occurs k Crashes v) (ap (occurs k Crashes) same) h.1 req)
   lift (Forgets gone ∷ evs) es v same h req =
@@ -102,21 +102,21 @@ module _ (k : model.Settings) (o : Cause) (untimed : o ≡ Time → ⊥) where
         follows = record { stands = r.stands; same = l.server ∙ sym r.state };
         clients = l.clients;
         messages = l.messages ∙ ap (λ (y : List given.Grant). sent_on y (run.world k es).messages) (sym r.sends);
-        never_two = no-two k l.whole;
+        never_two = no_two k l.whole;
       }
 
-pub run-goes-on : RunGoesOn
-run-goes-on k es s bs f untimed req = goes_on k (cause_in (understood bs s)) untimed es s _ _ f req (step-refines k s bs f.stands)
+pub run-goes_on : RunGoesOn
+run-goes_on k es s bs f untimed req = goes_on k (cause_in (understood bs s)) untimed es s _ _ f req (step-refines k s bs f.stands)
 
-asking-no-time : (r : asked.Request) → Asking r ≡ Time → ⊥
-asking-no-time r e = let z : ◌≡◌ {A = ℕ} 0 1 = cc in omega arith
+asking_no_time : (r : asked.Request) → Asking r ≡ Time → ⊥
+asking_no_time r e = let z : ◌≡◌ {A = ℕ} 0 1 = cc in omega arith
 
 same-asking : (q r : asked.Request) → Asking r ≡ Asking q → r ≡ q
 same-asking q r e = cc
 
 pub run-is-cut : RunIsCut
 run-is-cut k es s r g i c f was e =
-    goes_on k (Asking r) (asking-no-time r) es s _ [] f (λ q z. subst (Sent k es) (same-asking q r z) was) (cut-refines-all k s r g i c f.stands e)
+    goes_on k (Asking r) (asking_no_time r) es s _ [] f (λ q z. subst (Sent k es) (same-asking q r z) was) (cut-refines-all k s r g i c f.stands e)
 
 pub run-ticks : RunTicks
 unfolding hears run.world
@@ -125,8 +125,8 @@ run-ticks k es s bs f w e l =
     let z : hears bs s ≡ silently (with_server (server_passes 1 s.server) s) =
     ap (λ (a : Answer). answers a s) e ∙ cond-false (leb (2 ^ 63) (s.server.clock + 1)) (refuses CountExhausted s) (silently (with_server (server_passes 1 s.server) s)) b in (
       subst (λ (t : Step). Follows k (run.Pass 1 f ∷ es) t.state) (sym z)
-          (record { stands = tick-stands k s w.stands; same = ap (server_passes 1) w.same ∙ sym (ticks-on k s w.stands) }),
-      no-two k (run.Pass 1 f ∷ es),
+          (record { stands = tick_stands k s w.stands; same = ap (server_passes 1) w.same ∙ sym (ticks-on k s w.stands) }),
+      no_two k (run.Pass 1 f ∷ es),
     )
 
 pub begins : Begins

@@ -18,11 +18,11 @@ pool-size None = refl
 pool-size (Some s) = refl
 
 module _ (bs : List ℕ) (s : State) where
-  pub heard-ok : {E : Type 0} (m : Message) (r : Result Reply E) (b a : Journal) (t : State) → understood bs s ≡ Ok m → MatchResult r (λ x. Comes b s (does m s) x a t) (λ _. (t ≡ s) × (settling m ≡ true)) →
+  pub heard_ok : {E : Type 0} (m : Message) (r : Result Reply E) (b a : Journal) (t : State) → understood bs s ≡ Ok m → MatchResult r (λ x. Comes b s (does m s) x a t) (λ _. (t ≡ s) × (settling m ≡ true)) →
       MatchResult r (λ x. Comes b s (hears bs s) x a t) (λ _. (t ≡ s) × (settling_by (understood bs s) ≡ true))
   unfolding hears
-  heard-ok m r b a t e h = subst (λ (y : Answer). MatchResult r (λ x. Comes b s (answers y s) x a t) (λ _. (t ≡ s) × (settling_by y ≡ true))) (sym e) h
+  heard_ok m r b a t e h = subst (λ (y : Answer). MatchResult r (λ x. Comes b s (answers y s) x a t) (λ _. (t ≡ s) × (settling_by y ≡ true))) (sym e) h
 
-  pub heard-err : (f : Fault) (b : Journal) → understood bs s ≡ Err f → Comes b s (hears bs s) (Refused f) b s
+  pub heard_err : (f : Fault) (b : Journal) → understood bs s ≡ Err f → Comes b s (hears bs s) (Refused f) b s
   unfolding hears
-  heard-err f b e = subst (λ (y : Answer). Comes b s (answers y s) (Refused f) b s) (sym e) (record { state = refl; effects = refl; file = refl })
+  heard_err f b e = subst (λ (y : Answer). Comes b s (answers y s) (Refused f) b s) (sym e) (record { state = refl; effects = refl; file = refl })

@@ -47,16 +47,16 @@ ends s k q b (y ∷ xs) x =
     let r : (ws : List Write) × (w : Write) × (numbered s (suc k) (suc q) b (xs ++ (x ∷ [])) ≡ ws ++ (w ∷ [])) × (w.what.lease ≡ x) = ends s (suc k) (suc q) b xs x in
     (w ∷ r.0, r.1, ap (λ (l : List Write). w ∷ l) r.2, r.3)
 
-tells-only : (o : Option ℕ) → (persisted (tells o) ≡ []) × (grants_in (tells o) ≡ [])
-tells-only None = (refl, refl)
-tells-only (Some u) = (refl, refl)
+tells_only : (o : Option ℕ) → (persisted (tells o) ≡ []) × (grants_in (tells o) ≡ [])
+tells_only None = (refl, refl)
+tells_only (Some u) = (refl, refl)
 
 module _ (s : State) where
   still : (t : Step) → t.state.device ≡ s.device → persisted t.effects ≡ [] → grants_in t.effects ≡ [] → Orderly s t
   still t d p g = inl (record { device = d; persists = p; grants = g })
 
-  read-orderly : (k : model.Settings) (clock : ℕ) → Orderly s (reads k clock s)
-  read-orderly k clock = still (reads k clock s) refl (tells-only (rereads k clock s.device s.server).silent).0 (tells-only (rereads k clock s.device s.server).silent).1
+  read_orderly : (k : model.Settings) (clock : ℕ) → Orderly s (reads k clock s)
+  read_orderly k clock = still (reads k clock s) refl (tells_only (rereads k clock s.device s.server).silent).0 (tells_only (rereads k clock s.device s.server).silent).1
 
   granted : (k : model.Settings) (g : given.Grant) → s.settings ≡ Some k → Grants s (appends k g (planned k s) (lease_of k s g) s)
   granted k g e =
@@ -84,18 +84,18 @@ module _ (s : State) where
   replied k (Granted g) e =
       cond_both (exhausted (planned k s)) (refuses CountExhausted s) (appends k g (planned k s) (lease_of k s g) s) (λ t. Orderly s t) (λ h. still (refuses CountExhausted s) refl refl refl) (λ h. inr (granted k g e))
 
-  asked-for : (o : Option model.Settings) (r : asked.Request) → s.settings ≡ o → Orderly s (requested o r s)
-  asked-for None r e = still _ refl refl refl
-  asked-for (Some k) r e = replied k (answer k s.server r) e
+  asked_for : (o : Option model.Settings) (r : asked.Request) → s.settings ≡ o → Orderly s (requested o r s)
+  asked_for None r e = still _ refl refl refl
+  asked_for (Some k) r e = replied k (answer k s.server r) e
 
-  came-back : (o : Option model.Settings) (clock : ℕ) → Orderly s (comes_back o clock s)
-  came-back None clock = still _ refl refl refl
-  came-back (Some k) clock = read-orderly k clock
+  came_back : (o : Option model.Settings) (clock : ℕ) → Orderly s (comes_back o clock s)
+  came_back None clock = still _ refl refl refl
+  came_back (Some k) clock = read_orderly k clock
 
   settled : (k : model.Settings) → Orderly s (settles k s)
   settled k =
       cond_both s.server.up (reads k s.server.clock s) (silently (record { settings = Some k; server = s.server; device = s.device; cursor = s.cursor })) (λ t. Orderly s t)
-      (λ h. read-orderly k s.server.clock) (λ h. inl (record { device = refl; persists = refl; grants = refl }))
+      (λ h. read_orderly k s.server.clock) (λ h. inl (record { device = refl; persists = refl; grants = refl }))
 
   learned : (o : Option model.Settings) (n t e : ℕ) → Orderly s (learns o n t e s)
   learned None n t e =
@@ -104,7 +104,7 @@ module _ (s : State) where
 
   ordered : (a : Answer) → Orderly s (answers a s)
   ordered (Err f) = still _ refl refl refl
-  ordered (Ok (Request r)) = asked-for s.settings r refl
+  ordered (Ok (Request r)) = asked_for s.settings r refl
   ordered (Ok (Grant g)) = still _ refl refl refl
   ordered (Ok (Settings n t e)) = learned s.settings n t e
   ordered (Ok Tick) =
@@ -112,24 +112,24 @@ module _ (s : State) where
       (λ h. still (refuses CountExhausted s) refl refl refl) (λ h. inl (record { device = refl; persists = refl; grants = refl }))
   ordered (Ok Crash) = still _ refl refl refl
   ordered (Ok (Restart clock)) =
-      cond_both (leb (2 ^ 63) clock) (refuses CountExhausted s) (comes_back s.settings clock s) (λ t. Orderly s t) (λ h. still (refuses CountExhausted s) refl refl refl) (λ h. came-back s.settings clock)
+      cond_both (leb (2 ^ 63) clock) (refuses CountExhausted s) (comes_back s.settings clock s) (λ t. Orderly s t) (λ h. still (refuses CountExhausted s) refl refl refl) (λ h. came_back s.settings clock)
   ordered (Ok (OwnNumber c)) = still _ refl refl refl
   ordered (Ok (Nonce c)) = still _ refl refl refl
   ordered (Ok (InUse a u)) = still _ refl refl refl
   ordered (Ok NoAddress) = still _ refl refl refl
   ordered (Ok (Fault f)) = still _ refl refl refl
 
-pub steps-orderly : StepsOrderly
+pub steps_orderly : StepsOrderly
 unfolding hears
-steps-orderly s bs = ordered s (understood bs s)
+steps_orderly s bs = ordered s (understood bs s)
 
 -- by what the step comes to
-pub file-by : (o : Option model.Settings) (r : Reply) (b a : Journal) (s : State) → s.settings ≡ o → FiledBy o r b a s → FileBy (effects_of r) b a s
-file-by o Nothing b a s e f = record { unwritten = λ z. f; cut = λ k g i n h z. absurd (let y : ◌≡◌ {A = ℕ} 0 1 = cc in omega arith) }
-file-by o (reply.Refused x) b a s e f = record { unwritten = λ z. f; cut = λ k g i n h z. absurd (let y : ◌≡◌ {A = ℕ} 0 1 = cc in omega arith) }
-file-by None (reply.Granted w q) b a s e f =
+pub file_by : (o : Option model.Settings) (r : Reply) (b a : Journal) (s : State) → s.settings ≡ o → FiledBy o r b a s → FileBy (effects_of r) b a s
+file_by o Nothing b a s e f = record { unwritten = λ z. f; cut = λ k g i n h z. absurd (let y : ◌≡◌ {A = ℕ} 0 1 = cc in omega arith) }
+file_by o (reply.Refused x) b a s e f = record { unwritten = λ z. f; cut = λ k g i n h z. absurd (let y : ◌≡◌ {A = ℕ} 0 1 = cc in omega arith) }
+file_by None (reply.Granted w q) b a s e f =
     record { unwritten = λ z. absurd (let y : ◌≡◌ {A = ℕ} 0 1 = cc in omega arith); cut = λ k g i n h z. absurd (let y : ◌≡◌ {A = ℕ} 0 1 = cc in omega arith) }
-file-by (Some j) (reply.Granted w q) b a s e f =
+file_by (Some j) (reply.Granted w q) b a s e f =
     record {
       unwritten = λ z. absurd (let y : ◌≡◌ {A = ℕ} 0 1 = cc in omega arith);
       cut = λ k g i n h z.

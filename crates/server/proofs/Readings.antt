@@ -23,16 +23,16 @@ use Rattle.server.specs.Server.{is_lost, pooled, reads, rereads, tells}
 use Rattle.server.specs.Steps.{Comes, FiledBy, missing}
 use Rattle.server.proofs.States.{same-state, state_by}
 
-at-home : (a : ℕ) (e : Option Lease) → ((l : Lease) → e ≡ Some l → l.address ≡ a) → at_home a e ≡ e
-at-home a None h = refl
-at-home a (Some l) h = cond-true _ _ _ (eq-eqb l.address a (h l refl))
+at_home_lem : (a : ℕ) (e : Option Lease) → ((l : Lease) → e ≡ Some l → l.address ≡ a) → at_home a e ≡ e
+at_home_lem a None h = refl
+at_home_lem a (Some l) h = cond-true _ _ _ (eq-eqb l.address a (h l refl))
 
 -- the places that recovery filled are loaded as what the device has of the pool
 pub loaded-pooled : (n : ℕ) (d : Device) (xs : List (Option Lease)) → length xs ≡ n → ((a : ℕ) → a < length xs → get_or xs a None ≡ leases 4096 d a) → loaded n xs ≡ pooled n d
 loaded-pooled n d xs e h =
     fun_ext (λ a. elim (cases_lt a n) [
       | inl l ↦
-          cond-true (ltb a n) (at_home a (get_or xs a None)) None (lt-ltb a n l) ∙ ap (at_home a) (h a (omega arith)) ∙ at-home a (leases 4096 d a) (filed-at 4096 d (chosen 4096 d) a)
+          cond-true (ltb a n) (at_home a (get_or xs a None)) None (lt-ltb a n l) ∙ ap (at_home a) (h a (omega arith)) ∙ at_home_lem a (leases 4096 d a) (filed-at 4096 d (chosen 4096 d) a)
           ∙ sym (cond-true (ltb a n) (leases 4096 d a) None (lt-ltb a n l))
       | inr l ↦ cond-false (ltb a n) (at_home a (get_or xs a None)) None (le-ltb a n l) ∙ sym (cond-false (ltb a n) (leases 4096 d a) None (le-ltb a n l))
     ])
@@ -46,12 +46,12 @@ module _ (k l m : Keeper) (before after : Journal) (xs : List (Option Lease)) (c
   abbrev d : Device
   d = device_of (vec_items before.device)
 
-  pub has-read : length xs ≡ k.settings.addresses → vec_items after.device ≡ vec_items before.device →
+  pub has_read : length xs ≡ k.settings.addresses → vec_items after.device ≡ vec_items before.device →
       Recovered (device_of (vec_items after.device)) after.rows after.active after.highest after.found →
       ((a : ℕ) → a < length xs → get_or xs a None ≡ leases 4096 (device_of (vec_items after.device)) a) →
       FiledBy (Some (settings_of k.settings)) r before after (state_by k before) → KeeperLoaded xs k l → lost ≡ missing after.found → KeeperRestarted clock lost l m → effects_of r ≡ tells m.silent →
       Comes before (state_by k before) (reads (settings_of k.settings) clock (state_by k before)) r after (state_by m after)
-  has-read size same rec table file load miss up says =
+  has_read size same rec table file load miss up says =
       let s : model.Settings = settings_of k.settings in
       let t : (a : ℕ) → a < length xs → get_or xs a None ≡ leases 4096 d a = λ a b. table a b ∙ ap (λ (bs : List (List ℕ)). leases 4096 (device_of bs) a) same in
       let p : loaded k.settings.addresses xs ≡ pooled s.addresses d = loaded-pooled s.addresses d xs size t in

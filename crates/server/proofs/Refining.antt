@@ -25,8 +25,8 @@ use Rattle.journal.specs.Device.{Device, Choice, New, Lost, Found, chosen, Curso
 use Rattle.journal.specs.Append.{Plan, after, exhausted, perform, writes}
 use Rattle.journal.specs.Crash.{Cut, Untouched, cut_at, lands}
 use Rattle.journal.specs.Laws.{Ready, Sound}
-use Rattle.journal.proofs.Tables.{agree-later, filed-empty}
-use Rattle.journal.proofs.Appends.{append-stands}
+use Rattle.journal.proofs.Tables.{agree_later, filed-empty}
+use Rattle.journal.proofs.Appends.{append_stands}
 use Rattle.journal.proofs.Runs.{filed-at, none-at}
 use Rattle.server.specs.Server.{State, answers, appends, comes_back, hears, is_lost, learns, lease_of, planned, pooled, reads, refuses, replies, requested, rereads, silently, tells, understood, with_server}
 use Rattle.server.specs.Refines.{CutRefines, Crashes, Forgets, Hears, HearsAndCrashes, Passes, Restarts, Cause, Asking, Falling, Other, Rising, Time, EventsOfRuns, Refines, SettlingStands, Stands, StepRefines, down_with, grant_by, grants_in, model_of, occurs, cause_in, sent}
@@ -37,10 +37,10 @@ use Rattle.server.proofs.Exact.{Exactly, kept_in, leaves, sound-left, whole-cut,
 pub pooled-none : (n : ℕ) (d : Device) → is_found (chosen 4096 d) ≡ false → pooled n d ≡ empty
 pooled-none n d e = fun_ext (λ a. cond_both (ltb a n) (leases 4096 d a) None (λ q. q ≡ None) (λ l. none-at 4096 d (chosen 4096 d) e a) (λ l. refl))
 
-lost-unfound : (c : Choice) → is_lost c ≡ true → is_found c ≡ false
-lost-unfound New e = refl
-lost-unfound Lost e = refl
-lost-unfound (Found s) e = absurd (both_ways _ refl e)
+lost_unfound : (c : Choice) → is_lost c ≡ true → is_found c ≡ false
+lost_unfound New e = refl
+lost_unfound Lost e = refl
+lost_unfound (Found s) e = absurd (both_ways _ refl e)
 
 over-silent : (now : ℕ) (up : Bool) (o : Option ℕ) → over now up o ≡ true → is_silent o ≡ true
 over-silent now up None e = absurd (both_ways _ refl e)
@@ -49,8 +49,8 @@ over-silent now up (Some u) e = refl
 in-pool : (n : ℕ) (t : Table) (a : ℕ) → a < n → cond (ltb a n) (t a) None ≡ t a
 in-pool n t a l = cond-true (ltb a n) (t a) None (lt-ltb a n l)
 
-out-of-pool : (n : ℕ) (t : Table) (a : ℕ) → n ≤ a → cond (ltb a n) (t a) None ≡ None
-out-of-pool n t a l = cond-false (ltb a n) (t a) None (le-ltb a n l)
+out_of_pool : (n : ℕ) (t : Table) (a : ℕ) → n ≤ a → cond (ltb a n) (t a) None ≡ None
+out_of_pool n t a l = cond-false (ltb a n) (t a) None (le-ltb a n l)
 
 -- WHAT AN APPEND STARTS FROM
 module _ (n now : ℕ) (d : Device) (c : Cursor) where
@@ -66,21 +66,21 @@ module _ (n now : ℕ) (d : Device) (c : Cursor) where
         agrees = λ a l. ap (kept_of now) (sym (in-pool n (leases 4096 d) a l));
         filed = λ a l e. elim (cases_lt a n) [
           | inl h ↦ filed-at 4096 d (chosen 4096 d) a l (sym (in-pool n (leases 4096 d) a h) ∙ e)
-          | inr h ↦ let z : ◌≡◌ {A = Option Lease} None (Some l) = sym (out-of-pool n (leases 4096 d) a h) ∙ e in absurd (let y : ◌≡◌ {A = ℕ} 0 1 = cc in omega arith)
+          | inr h ↦ let z : ◌≡◌ {A = Option Lease} None (Some l) = sym (out_of_pool n (leases 4096 d) a h) ∙ e in absurd (let y : ◌≡◌ {A = ℕ} 0 1 = cc in omega arith)
         ];
         none = λ z a. ap (λ (t : Table). t a) (pooled-none n d z);
       }
 
   ready-later : (then : ℕ) (u : Table) → now ≤ then → Ready 4096 n now d c u → Ready 4096 n then d c u
   ready-later then u l r =
-      record { sound = r.sound; same = r.same; agrees = agree-later n now then (leases 4096 d) u l r.agrees; filed = r.filed; none = r.none }
+      record { sound = r.sound; same = r.same; agrees = agree_later n now then (leases 4096 d) u l r.agrees; filed = r.filed; none = r.none }
 
-not-silent : (o : Option ℕ) → o ≡ None → is_silent o ≡ true → ⊥
-not-silent o e h = both_ways _ (ap is_silent e) h
+not_silent_lem : (o : Option ℕ) → o ≡ None → is_silent o ≡ true → ⊥
+not_silent_lem o e h = both_ways _ (ap is_silent e) h
 
-tells-nobody : (o : Option ℕ) → grants_in (tells o) ≡ []
-tells-nobody None = refl
-tells-nobody (Some u) = refl
+tells_nobody : (o : Option ℕ) → grants_in (tells o) ≡ []
+tells_nobody None = refl
+tells_nobody (Some u) = refl
 
 -- READING
 module _ (k : model.Settings) (s : State) (few : k.addresses < 4096) (sound : Sound 4096 s.device) (lost : is_silent s.server.silent ≡ true → is_found (chosen 4096 s.device) ≡ false) (clock : ℕ) where
@@ -94,14 +94,14 @@ module _ (k : model.Settings) (s : State) (few : k.addresses < 4096) (sound : So
   read-refines =
       let b : Bool = is_lost (chosen 4096 d) || is_silent s.server.silent in
       let none : b ≡ true → is_found (chosen 4096 d) ≡ false =
-      λ e. elim (or_cases (is_lost (chosen 4096 d)) (is_silent s.server.silent) e) [ inl h ↦ lost-unfound (chosen 4096 d) h | inr h ↦ lost h ] in
+      λ e. elim (or_cases (is_lost (chosen 4096 d)) (is_silent s.server.silent) e) [ inl h ↦ lost_unfound (chosen 4096 d) h | inr h ↦ lost h ] in
       let x : world.Server = record { clock = clock; up = true; silent = Some (clock + model.silence k); table = empty } in
       let y : world.Server = record { clock = clock; up = true; silent = None; table = pooled k.addresses d } in
       record {
         events = Restarts clock (is_lost (chosen 4096 d)) ∷ [];
         heard = (refl, tt);
         state = cond_both b x y (λ z. model_of k (has z) ≡ z) (λ e. ap (λ (t : Table). record { clock = clock; up = true; silent = Some (clock + model.silence k); table = t }) (pooled-none k.addresses d (none e))) (λ e. refl);
-        sends = tells-nobody (rereads k clock d s.server).silent;
+        sends = tells_nobody (rereads k clock d s.server).silent;
         stands = cond_both b x y (λ z. Stands k (has z))
             (λ e. record { settled = refl; few = few; sound = sound; ready = λ u. ready-none k.addresses clock d (cursor 4096 d) sound refl (none e); lost = λ u. none e })
             (λ e. record { settled = refl; few = few; sound = sound; ready = λ u. ready-pooled k.addresses clock d (cursor 4096 d) sound refl; lost = λ u. absurd (both_ways _ refl u) });
@@ -110,34 +110,34 @@ module _ (k : model.Settings) (s : State) (few : k.addresses < 4096) (sound : So
 pub settling-stands : SettlingStands
 settling-stands k s few sound quiet =
     cond_both s.server.up (reads k s.server.clock s) (silently (record { settings = Some k; server = s.server; device = s.device; cursor = s.cursor })) (λ t. Refines k s t.state (grants_in t.effects) (Rising s.server.clock))
-    (λ e. read-refines k s few sound (λ h. absurd (not-silent s.server.silent quiet h)) s.server.clock)
+    (λ e. read-refines k s few sound (λ h. absurd (not_silent_lem s.server.silent quiet h)) s.server.clock)
     (λ e. record {
       events = [];
       heard = tt;
       state = refl;
       sends = refl;
-      stands = record { settled = refl; few = few; sound = sound; ready = λ u. absurd (both_ways _ e u); lost = λ h. absurd (not-silent s.server.silent quiet h) };
+      stands = record { settled = refl; few = few; sound = sound; ready = λ u. absurd (both_ways _ e u); lost = λ h. absurd (not_silent_lem s.server.silent quiet h) };
     })
 
 -- WHICH TABLE AN APPEND LEAVES
-abbrev cut-to : (n : ℕ) → Table → Table
-cut-to n t a = cond (ltb a n) (t a) None
+abbrev cut_to_lem : (n : ℕ) → Table → Table
+cut_to_lem n t a = cond (ltb a n) (t a) None
 
-pooled-with : (n : ℕ) (d : Device) (x : Lease) (t : Table) (b : Bool) → Exactly n (leases 4096 d) (with? b x t) → x.address < n → pooled n d ≡ with? b x (cut-to n t)
-pooled-with n d x t true h l =
+pooled_with : (n : ℕ) (d : Device) (x : Lease) (t : Table) (b : Bool) → Exactly n (leases 4096 d) (with? b x t) → x.address < n → pooled n d ≡ with? b x (cut_to_lem n t)
+pooled_with n d x t true h l =
     fun_ext (λ a. elim (cases_lt a n) [
       | inl m ↦ in-pool n (leases 4096 d) a m ∙ h a m ∙ ap (λ (o : Option Lease). cond (eqb a x.address) (Some x) o) (sym (in-pool n t a m))
       | inr m ↦
-          out-of-pool n (leases 4096 d) a m ∙ sym (out-of-pool n t a m)
-          ∙ sym (cond-false (eqb a x.address) (Some x) (cut-to n t a) (ne_eqb a x.address (λ e. omega arith)))
+          out_of_pool n (leases 4096 d) a m ∙ sym (out_of_pool n t a m)
+          ∙ sym (cond-false (eqb a x.address) (Some x) (cut_to_lem n t a) (ne_eqb a x.address (λ e. omega arith)))
     ])
-pooled-with n d x t false h l =
+pooled_with n d x t false h l =
     fun_ext (λ a. elim (cases_lt a n) [
       | inl m ↦ in-pool n (leases 4096 d) a m ∙ h a m ∙ sym (in-pool n t a m)
-      | inr m ↦ out-of-pool n (leases 4096 d) a m ∙ sym (out-of-pool n t a m)
+      | inr m ↦ out_of_pool n (leases 4096 d) a m ∙ sym (out_of_pool n t a m)
     ])
 
-cut-kept : (n now : ℕ) (t : Table) → cut-to n (kept_in now t) ≡ kept_in now (cut-to n t)
+cut-kept : (n now : ℕ) (t : Table) → cut_to_lem n (kept_in now t) ≡ kept_in now (cut_to_lem n t)
 cut-kept n now t = fun_ext (λ a. go a (ltb a n))
   where
     go : (a : ℕ) (b : Bool) → cond b (kept_of now (t a)) None ≡ kept_of now (cond b (t a) None)
@@ -179,30 +179,30 @@ module _ (k : model.Settings) (s : State) (st : Stands k s) where
   unchanged o = record { events = []; heard = tt; state = refl; sends = refl; stands = st }
 
   -- A TICK
-  abbrev over-now : Bool
-  over-now = over (v.clock + 1) v.up v.silent
+  abbrev over_now : Bool
+  over_now = over (v.clock + 1) v.up v.silent
 
   abbrev ended : world.Server
   ended = record { clock = v.clock + 1; up = v.up; silent = None; table = empty }
 
-  abbrev gone-on : Table → world.Server
-  gone-on t = record { clock = v.clock + 1; up = v.up; silent = v.silent; table = t }
+  abbrev gone_on : Table → world.Server
+  gone_on t = record { clock = v.clock + 1; up = v.up; silent = v.silent; table = t }
 
-  none-lost : over-now ≡ true → is_found (chosen 4096 s.device) ≡ false
+  none-lost : over_now ≡ true → is_found (chosen 4096 s.device) ≡ false
   none-lost e = st.lost (over-silent (v.clock + 1) v.up v.silent e)
 
   pub ticks-on : model_of k (with_server (server_passes 1 v) s) ≡ server_passes 1 m
   ticks-on =
-      elim (cases_Bool over-now) [
+      elim (cases_Bool over_now) [
         | inl e ↦
-            ap (λ (z : world.Server). model_of k (with_server z s)) (cond-true over-now ended (gone-on v.table) e)
-            ∙ ap (λ (t : Table). record { clock = v.clock + 1; up = v.up; silent = None; table = t }) (pooled-none k.addresses s.device (none-lost e)) ∙ sym (cond-true over-now ended (gone-on m.table) e)
-        | inr e ↦ ap (λ (z : world.Server). model_of k (with_server z s)) (cond-false over-now ended (gone-on v.table) e) ∙ sym (cond-false over-now ended (gone-on m.table) e)
+            ap (λ (z : world.Server). model_of k (with_server z s)) (cond-true over_now ended (gone_on v.table) e)
+            ∙ ap (λ (t : Table). record { clock = v.clock + 1; up = v.up; silent = None; table = t }) (pooled-none k.addresses s.device (none-lost e)) ∙ sym (cond-true over_now ended (gone_on m.table) e)
+        | inr e ↦ ap (λ (z : world.Server). model_of k (with_server z s)) (cond-false over_now ended (gone_on v.table) e) ∙ sym (cond-false over_now ended (gone_on m.table) e)
       ]
 
-  pub tick-stands : Stands k (with_server (server_passes 1 v) s)
-  tick-stands =
-      cond_both over-now ended (gone-on v.table) (λ z. Stands k (with_server z s))
+  pub tick_stands : Stands k (with_server (server_passes 1 v) s)
+  tick_stands =
+      cond_both over_now ended (gone_on v.table) (λ z. Stands k (with_server z s))
       (λ e. record {
         settled = st.settled;
         few = st.few;
@@ -219,7 +219,7 @@ module _ (k : model.Settings) (s : State) (st : Stands k s) where
       })
 
   ticked : Refines k s (with_server (server_passes 1 v) s) [] Time
-  ticked = record { events = Passes 1 ∷ []; heard = ((refl, refl), tt); state = ticks-on; sends = refl; stands = tick-stands }
+  ticked = record { events = Passes 1 ∷ []; heard = ((refl, refl), tt); state = ticks-on; sends = refl; stands = tick_stands }
 
   crashed : Refines k s (with_server (crashes v) s) [] Falling
   crashed =
@@ -231,8 +231,8 @@ module _ (k : model.Settings) (s : State) (st : Stands k s) where
         stands = record { settled = st.settled; few = st.few; sound = st.sound; ready = λ u. absurd (both_ways _ refl u); lost = st.lost };
       }
 
-  came-back : (clock : ℕ) → Refines k s (comes_back s.settings clock s).state (grants_in (comes_back s.settings clock s).effects) (Rising clock)
-  came-back clock =
+  came_back : (clock : ℕ) → Refines k s (comes_back s.settings clock s).state (grants_in (comes_back s.settings clock s).effects) (Rising clock)
+  came_back clock =
       subst (λ (o : Option model.Settings). Refines k s (comes_back o clock s).state (grants_in (comes_back o clock s).effects) (Rising clock)) (sym st.settled) (read-refines k s st.few st.sound st.lost clock)
 
   -- A REQUEST
@@ -252,33 +252,33 @@ module _ (k : model.Settings) (s : State) (st : Stands k s) where
     start : Ready 4096 k.addresses v.clock s.device s.cursor v.table
     start = st.ready by.up
 
-    abbrev with-table : Table → world.Server
-    with-table t = server_at v.clock v.up v.silent t
+    abbrev with_table_lem : Table → world.Server
+    with_table_lem t = server_at v.clock v.up v.silent t
 
     -- whatever of what is over it remembers, the lending core answers the same
-    same_answer : (t : Table) → ((a : ℕ) → a < k.addresses → kept_of v.clock (t a) ≡ kept_of v.clock (leases 4096 s.device a)) → answer k (with-table t) r ≡ Granted g
+    same_answer : (t : Table) → ((a : ℕ) → a < k.addresses → kept_of v.clock (t a) ≡ kept_of v.clock (leases 4096 s.device a)) → answer k (with_table_lem t) r ≡ Granted g
     same_answer t h = answer-same k v.clock t v.table r v.up v.silent (λ u a l. h a l ∙ start.agrees a l) ∙ ans
 
     answer-all : answer k m r ≡ Granted g
     answer-all = same_answer m.table (λ a l. ap (kept_of v.clock) (in-pool k.addresses (leases 4096 s.device) a l))
 
     abbrev m' : world.Server
-    m' = with-table (kept_in v.clock m.table)
+    m' = with_table_lem (kept_in v.clock m.table)
 
     forgot : occurs k (Forgets all) m ≡ m'
-    forgot = cond-true v.up (with-table (forgotten v.clock all m.table)) m by.up ∙ ap with-table (forgotten-kept v.clock m.table)
+    forgot = cond-true v.up (with_table_lem (forgotten v.clock all m.table)) m by.up ∙ ap with_table_lem (forgotten-kept v.clock m.table)
 
     answer-kept : answer k m' r ≡ Granted g
     answer-kept = same_answer m'.table (λ a l. kept-twice v.clock (m.table a) ∙ ap (kept_of v.clock) (in-pool k.addresses (leases 4096 s.device) a l))
 
-    not-lost : is_silent v.silent ≡ true → is_found (chosen 4096 (perform (writes p x) s.device)) ≡ false
-    not-lost h = absurd (not-silent v.silent by.quiet h)
+    not_lost : is_silent v.silent ≡ true → is_found (chosen 4096 (perform (writes p x) s.device)) ≡ false
+    not_lost h = absurd (not_silent_lem v.silent by.quiet h)
 
     stands_after : Stands k (appends k g p x s).state
     stands_after =
         let z : Ready 4096 k.addresses v.clock (perform (writes p x) s.device) (after s.cursor p) (set x v.table) =
-        (append-stands 4096 k.addresses v.clock v.clock s.device s.cursor v.table x st.few (omega arith) start).0 in
-        record { settled = st.settled; few = st.few; sound = z.sound; ready = λ u. z; lost = not-lost }
+        (append_stands 4096 k.addresses v.clock v.clock s.device s.cursor v.table x st.few (omega arith) start).0 in
+        record { settled = st.settled; few = st.few; sound = z.sound; ready = λ u. z; lost = not_lost }
 
     served : (w : world.Server) → answer k w r ≡ Granted g → occurs k (Hears r) w ≡ lends k g w
     served w e = ap (λ (y : lent.Answer). serves k y w) e
@@ -289,14 +289,14 @@ module _ (k : model.Settings) (s : State) (st : Stands k s) where
     abbrev whole : Device
     whole = cut_at (length (writes p x)) Untouched (writes p x) s.device
 
-    landed-whole : lands (length (writes p x)) Untouched (length (writes p x)) ≡ true
-    landed-whole = le-leb (length (writes p x)) (length (writes p x)) (omega arith)
+    landed_whole : lands (length (writes p x)) Untouched (length (writes p x)) ≡ true
+    landed_whole = le-leb (length (writes p x)) (length (writes p x)) (omega arith)
 
     whole-table : (t : Table) → Exactly k.addresses (leases 4096 whole) (with? (lands (length (writes p x)) Untouched (length (writes p x))) x t) →
-        pooled k.addresses (perform (writes p x) s.device) ≡ set x (cut-to k.addresses t)
+        pooled k.addresses (perform (writes p x) s.device) ≡ set x (cut_to_lem k.addresses t)
     whole-table t h =
         ap (pooled k.addresses) (whole-cut (writes p x) s.device)
-        ∙ pooled-with k.addresses whole x t true (subst (λ (b : Bool). Exactly k.addresses (leases 4096 whole) (with? b x t)) landed-whole h) inside
+        ∙ pooled_with k.addresses whole x t true (subst (λ (b : Bool). Exactly k.addresses (leases 4096 whole) (with? b x t)) landed_whole h) inside
 
     appended : Refines k s (appends k g p x s).state (g ∷ []) (Asking r)
     appended =
@@ -304,14 +304,14 @@ module _ (k : model.Settings) (s : State) (st : Stands k s) where
           | inl h ↦ record {
             events = Hears r ∷ [];
             heard = (refl, tt);
-            state = ap with-table (whole-table (leases 4096 s.device) h) ∙ sym (served m answer-all);
+            state = ap with_table_lem (whole-table (leases 4096 s.device) h) ∙ sym (served m answer-all);
             sends = sent-one m answer-all;
             stands = stands_after;
           }
           | inr h ↦ record {
             events = Forgets all ∷ (Hears r ∷ []);
             heard = (tt, (refl, tt));
-            state = ap with-table (whole-table (kept_in v.clock (leases 4096 s.device)) h ∙ ap (set x) (cut-kept k.addresses v.clock (leases 4096 s.device)))
+            state = ap with_table_lem (whole-table (kept_in v.clock (leases 4096 s.device)) h ∙ ap (set x) (cut-kept k.addresses v.clock (leases 4096 s.device)))
                 ∙ sym (served m' answer-kept) ∙ ap (occurs k (Hears r)) (sym forgot);
             sends = sent-one m' answer-kept ∙ ap (λ (w : world.Server). sent k (Hears r ∷ []) w) (sym forgot);
             stands = stands_after;
@@ -319,11 +319,11 @@ module _ (k : model.Settings) (s : State) (st : Stands k s) where
         ]
 
     -- A CRASH WITHIN IT
-    abbrev down-with : Table → world.Server
-    down-with t = server_at v.clock false v.silent t
+    abbrev down_with_lem : Table → world.Server
+    down_with_lem t = server_at v.clock false v.silent t
 
-    crashed-at : (b : Bool) (t : Table) → answer k (with-table t) r ≡ Granted g → occurs k (HearsAndCrashes r b) (with-table t) ≡ down-with (with? b x t)
-    crashed-at true t e = ap (λ (y : lent.Answer). crashes (serves k y (with-table t))) e
+    crashed-at : (b : Bool) (t : Table) → answer k (with_table_lem t) r ≡ Granted g → occurs k (HearsAndCrashes r b) (with_table_lem t) ≡ down_with_lem (with? b x t)
+    crashed-at true t e = ap (λ (y : lent.Answer). crashes (serves k y (with_table_lem t))) e
     crashed-at false t e = refl
 
     module _ (i : ℕ) (c : Cut) where
@@ -340,7 +340,7 @@ module _ (k : model.Settings) (s : State) (st : Stands k s) where
             few = st.few;
             sound = sound-left 4096 k.addresses v.clock s.device s.cursor v.table x st.few start i c;
             ready = λ u. absurd (both_ways _ refl u);
-            lost = λ h. absurd (not-silent v.silent by.quiet h);
+            lost = λ h. absurd (not_silent_lem v.silent by.quiet h);
           }
 
       cut-refines : Refines k s (down_with left s) [] (Asking r)
@@ -349,14 +349,14 @@ module _ (k : model.Settings) (s : State) (st : Stands k s) where
             | inl h ↦ record {
               events = HearsAndCrashes r b ∷ [];
               heard = (refl, tt);
-              state = ap down-with (pooled-with k.addresses left x (leases 4096 s.device) b h inside) ∙ sym (crashed-at b m.table answer-all);
+              state = ap down_with_lem (pooled_with k.addresses left x (leases 4096 s.device) b h inside) ∙ sym (crashed-at b m.table answer-all);
               sends = refl;
               stands = stands-cut;
             }
             | inr h ↦ record {
               events = Forgets all ∷ (HearsAndCrashes r b ∷ []);
               heard = (tt, (refl, tt));
-              state = ap down-with (pooled-with k.addresses left x (kept_in v.clock (leases 4096 s.device)) b h inside ∙ ap (with? b x) (cut-kept k.addresses v.clock (leases 4096 s.device)))
+              state = ap down_with_lem (pooled_with k.addresses left x (kept_in v.clock (leases 4096 s.device)) b h inside ∙ ap (with? b x) (cut-kept k.addresses v.clock (leases 4096 s.device)))
                   ∙ sym (crashed-at b m'.table answer-kept) ∙ ap (occurs k (HearsAndCrashes r b)) (sym forgot);
               sends = refl;
               stands = stands-cut;
@@ -370,13 +370,13 @@ module _ (k : model.Settings) (s : State) (st : Stands k s) where
       cond_both (exhausted (planned k s)) (refuses CountExhausted s) (appends k g (planned k s) (lease_of k s g) s) (λ t. Refines k s t.state (grants_in t.effects) (Asking r))
       (λ h. unchanged (Asking r)) (λ h. appended r g e)
 
-  asked-for : (r : asked.Request) → Refines k s (requested s.settings r s).state (grants_in (requested s.settings r s).effects) (Asking r)
-  asked-for r =
+  asked_for : (r : asked.Request) → Refines k s (requested s.settings r s).state (grants_in (requested s.settings r s).effects) (Asking r)
+  asked_for r =
       subst (λ (o : Option model.Settings). Refines k s (requested o r s).state (grants_in (requested o r s).effects) (Asking r)) (sym st.settled) (replied r (answer k v r) refl)
 
   refines : (a : Answer) → Refines k s (answers a s).state (grants_in (answers a s).effects) (cause_in a)
   refines (Err f) = unchanged Other
-  refines (Ok (Request r)) = asked-for r
+  refines (Ok (Request r)) = asked_for r
   refines (Ok (Grant g)) = unchanged Other
   refines (Ok (Settings n t e)) =
       subst (λ (o : Option model.Settings). Refines k s (learns o n t e s).state (grants_in (learns o n t e s).effects) Other) (sym st.settled) (unchanged Other)
@@ -386,7 +386,7 @@ module _ (k : model.Settings) (s : State) (st : Stands k s) where
   refines (Ok Crash) = crashed
   refines (Ok (Restart clock)) =
       cond_both (leb (2 ^ 63) clock) (refuses CountExhausted s) (comes_back s.settings clock s) (λ t. Refines k s t.state (grants_in t.effects) (Rising clock))
-      (λ h. unchanged (Rising clock)) (λ h. came-back clock)
+      (λ h. unchanged (Rising clock)) (λ h. came_back clock)
   refines (Ok (OwnNumber c)) = unchanged Other
   refines (Ok (Nonce c)) = unchanged Other
   refines (Ok (InUse a u)) = unchanged Other
@@ -400,8 +400,8 @@ step-refines k s bs st = refines k s st (understood bs s)
 pub cut-refines-all : CutRefines
 cut-refines-all k s r g i c st e = cut-refines k s st r g e i c
 
-pub events-of-runs : EventsOfRuns
-events-of-runs k w =
+pub events-of_runs : EventsOfRuns
+events-of_runs k w =
     record {
       passes = λ n f. refl;
       hears = λ i r e. (ap (λ (o : Option world.Message). (run.server_hears k o w).server) e, ap (λ (o : Option world.Message). (run.server_hears k o w).messages) e);

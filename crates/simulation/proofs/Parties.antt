@@ -109,13 +109,13 @@ went_on h l n e u =
     let z : l.clock.ticks ≡ h.clock.ticks + n = ap (λ (x : world.Client). x.clock) (e ∙ cond-true h.up _ (client_of h) u) in
     omega (arith, z, l.clock.early)
 
-pub can-pass : (r : Result Holder Fault) (n : ℕ) (h : Holder) → HolderPassed r n h → is_err r ≡ false → h.up ≡ true → h.clock.ticks + n < 2 ^ 63
-can-pass (Ok l) n h p e u = went_on h l n p u
-can-pass (Err f) n h p e u = absurd (both_ways _ e refl)
+pub can_pass : (r : Result Holder Fault) (n : ℕ) (h : Holder) → HolderPassed r n h → is_err r ≡ false → h.up ≡ true → h.clock.ticks + n < 2 ^ 63
+can_pass (Ok l) n h p e u = went_on h l n p u
+can_pass (Err f) n h p e u = absurd (both_ways _ e refl)
 
-pub cannot-pass : (r : Result Holder Fault) (n : ℕ) (h : Holder) → HolderPassed r n h → is_err r ≡ true → (h.up ≡ true) × (2 ^ 63 ≤ h.clock.ticks + n)
-cannot-pass (Ok l) n h p e = absurd (both_ways _ refl e)
-cannot-pass (Err f) n h p e = (p.0, p.2)
+pub cannot_pass : (r : Result Holder Fault) (n : ℕ) (h : Holder) → HolderPassed r n h → is_err r ≡ true → (h.up ≡ true) × (2 ^ 63 ≤ h.clock.ticks + n)
+cannot_pass (Ok l) n h p e = absurd (both_ways _ refl e)
+cannot_pass (Err f) n h p e = (p.0, p.2)
 
 -- one turn of the loop that lets time pass: the clients below `i` went on, the others didn't yet
 abbrev pub GoneOn : (ticks : List ℕ) → (i : ℕ) → List Holder → List Holder → Type 0

@@ -66,10 +66,10 @@ pass_step v u xs ys ms k ts e m f =
     ap (λ (z : world.Server). whole z (clients_of ys) ms) e ∙ ap (λ (c : ℕ → world.Client). whole (run.server_passes k v) c ms) g
 
 -- a client asks
-pub ask-step : (v : world.Server) (xs : List Holder) (ms ms' : List Sent) (i n p : ℕ) (x y : Holder) → i < length xs → x ≡ get_or xs i x → x.up ≡ true →
+pub ask_step : (v : world.Server) (xs : List Holder) (ms ms' : List Sent) (i n p : ℕ) (x y : Holder) → i < length xs → x ≡ get_or xs i x → x.up ≡ true →
     world.elem n (nonces (messages_of ms)) ≡ false → client_of y ≡ run.asked n (client_of x) → ms' ≡ ms ++ Request (record { client = i; nonce = n; preferred = p }) ∷ [] →
     whole v (clients_of (set xs i y)) (messages_of ms') ≡ run.asks i n p (whole v (clients_of xs) (messages_of ms))
-ask-step v xs ms ms' i n p x y h r up fresh e m =
+ask_step v xs ms ms' i n p x y h r up fresh e m =
     let c : clients_of xs i ≡ client_of x = client-read xs i x h r in
     let f : clients_of (set xs i y) ≡ at i (run.asked n (clients_of xs i)) (clients_of xs) =
     clients-set xs i y h ∙ ap (λ (z : world.Client). at i z (clients_of xs)) (e ∙ ap (λ (z : world.Client). run.asked n z) (sym c)) in
@@ -82,9 +82,9 @@ ask-step v xs ms ms' i n p x y h r up fresh e m =
     ∙ sym (cond-true _ (run.requested i n p (whole v (clients_of xs) (messages_of ms))) (whole v (clients_of xs) (messages_of ms)) t)
 
 -- one that is down doesn't
-pub ask-down : (v : world.Server) (xs : List Holder) (ms : List Sent) (i n p : ℕ) (x : Holder) → i < length xs → x ≡ get_or xs i x → x.up ≡ false →
+pub ask_down : (v : world.Server) (xs : List Holder) (ms : List Sent) (i n p : ℕ) (x : Holder) → i < length xs → x ≡ get_or xs i x → x.up ≡ false →
     whole v (clients_of xs) (messages_of ms) ≡ run.asks i n p (whole v (clients_of xs) (messages_of ms))
-ask-down v xs ms i n p x h r d = sym (cond-false _ _ _ (and_left _ _ (ap (λ (z : world.Client). z.up) (client-read xs i x h r) ∙ d)))
+ask_down v xs ms i n p x h r d = sym (cond-false _ _ _ (and_left _ _ (ap (λ (z : world.Client). z.up) (client-read xs i x h r) ∙ d)))
 
 -- a request is answered
 pub grant-step : (s : Settings) (v u : world.Server) (f : ℕ → world.Client) (r : request.Request) (g : grant.Grant) (ms ms' : List Sent) (o : Option world.Message) →
@@ -99,16 +99,16 @@ grant-step s v u f r g ms ms' o e a b m =
     ∙ ap (λ (x : Option world.Message). run.server_hears s x (whole v f (messages_of ms))) e
 
 -- a client hears a grant
-pub hear-step : (s : Settings) (v : world.Server) (xs : List Holder) (ms : List world.Message) (i : ℕ) (x y : Holder) (g : grant.Grant) (o : Option world.Message) → Some (world.Grants g) ≡ o →
+pub hear_step : (s : Settings) (v : world.Server) (xs : List Holder) (ms : List world.Message) (i : ℕ) (x y : Holder) (g : grant.Grant) (o : Option world.Message) → Some (world.Grants g) ≡ o →
     i < length xs → x ≡ get_or xs i x → HolderHeard s.term i g (Ok y) x → whole v (clients_of (set xs i y)) ms ≡ run.client_hears s i o (whole v (clients_of xs) ms)
-hear-step s v xs ms i x y g o e h r k =
+hear_step s v xs ms i x y g o e h r k =
     put v ms xs i y (held.settled (clients_of xs i) (run.hearing s.term i g (clients_of xs i))) h
     (ap (λ (z : Result world.Client Fault). held.settled (client_of x) z) k ∙ ap (λ (z : world.Client). held.settled z (run.hearing s.term i g z)) (sym (client-read xs i x h r)))
     ∙ ap (λ (z : Option world.Message). run.client_hears s i z (whole v (clients_of xs) ms)) e
 
-pub hear-not : (s : Settings) (v : world.Server) (xs : List Holder) (ms : List world.Message) (i : ℕ) (x : Holder) (f : Fault) (g : grant.Grant) (o : Option world.Message) → Some (world.Grants g) ≡ o →
+pub hear_not : (s : Settings) (v : world.Server) (xs : List Holder) (ms : List world.Message) (i : ℕ) (x : Holder) (f : Fault) (g : grant.Grant) (o : Option world.Message) → Some (world.Grants g) ≡ o →
     i < length xs → x ≡ get_or xs i x → HolderHeard s.term i g (Err f) x → whole v (clients_of xs) ms ≡ run.client_hears s i o (whole v (clients_of xs) ms)
-hear-not s v xs ms i x f g o e h r k =
+hear_not s v xs ms i x f g o e h r k =
     put_same (whole v (clients_of xs) ms) i (held.settled (clients_of xs i) (run.hearing s.term i g (clients_of xs i)))
     (ap (λ (z : Result world.Client Fault). held.settled (clients_of xs i) z) (ap (λ (z : world.Client). run.hearing s.term i g z) (client-read xs i x h r) ∙ sym k))
     ∙ ap (λ (z : Option world.Message). run.client_hears s i z (whole v (clients_of xs) ms)) e
@@ -140,9 +140,9 @@ reached-more ts es i d x y z u h r st = (
   st.clients ∙ r.2,
 )
 
-pub reached-stop : (ts : List ℕ) (es : List Event) (i : ℕ) (d : Event) (x y z : Simulation) (stop : Stop) → i < length es → Reached ts es i x y → Stepped (Err stop) (event_of ts (get_or es i d)) y z →
+pub reached_stop : (ts : List ℕ) (es : List Event) (i : ℕ) (d : Event) (x y z : Simulation) (stop : Stop) → i < length es → Reached ts es i x y → Stepped (Err stop) (event_of ts (get_or es i d)) y z →
     ((past : List run.Event) → world_of x ≡ run.world (settings_in x) past → PlayedTo stop ts es past x z) × (settings_in z ≡ settings_in x) × (vec_len z.clients ≡ vec_len x.clients)
-reached-stop ts es i d x y z stop h r st = (
+reached_stop ts es i d x y z stop h r st = (
   (λ past e. (
     i,
     get_or es i d,
@@ -156,9 +156,9 @@ reached-stop ts es i d x y z stop h r st = (
   st.clients ∙ r.2,
 )
 
-pub world-end : (s : Settings) (ts : List ℕ) (es : List Event) (i : ℕ) (past : List run.Event) (w : world.World) → length es ≤ i →
+pub world_end : (s : Settings) (ts : List ℕ) (es : List Event) (i : ℕ) (past : List run.Event) (w : world.World) → length es ≤ i →
     w ≡ run.world s (history ts (take i es) ++ past) → w ≡ run.world s (history ts es ++ past)
-world-end s ts es i past w h e = e ∙ ap (λ (l : List Event). run.world s (history ts l ++ past)) (take_all i es h)
+world_end s ts es i past w h e = e ∙ ap (λ (l : List Event). run.world s (history ts l ++ past)) (take_all i es h)
 
 -- THE PROMISE, over the code's own clients
 pub alone : (s : Settings) (es : List run.Event) (xs : List Holder) → clients_of xs ≡ (run.world s es).clients → Agree s es → Alone xs
@@ -172,6 +172,6 @@ pub asked-up : (b : Bool) (x y : request.Request) → Some x ≡ cond b (Some y)
 asked-up true x y e = (refl, cc)
 asked-up false x y e = absurd (let z : ◌≡◌ {A = ℕ} 0 1 = cc in omega arith)
 
-pub asked-down : (b : Bool) (y : request.Request) → None ≡ cond b (Some y) None → b ≡ false
-asked-down true y e = absurd (let z : ◌≡◌ {A = ℕ} 0 1 = cc in omega arith)
-asked-down false y e = refl
+pub asked_down : (b : Bool) (y : request.Request) → None ≡ cond b (Some y) None → b ≡ false
+asked_down true y e = absurd (let z : ◌≡◌ {A = ℕ} 0 1 = cc in omega arith)
+asked_down false y e = refl

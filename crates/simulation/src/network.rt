@@ -1,13 +1,13 @@
 ghost use Rattle.std.specs.Prelude.{◌≡◌};
 ghost use Rattle.std.specs.Option.{option_map};
-ghost use Rattle.lease.specs.World.{elem, sent as sentAt};
+ghost use Rattle.lease.specs.World.{elem, sent as sent_at};
 ghost use Rattle.simulation.specs.Play.{message_of, messages_of, nonces, draws_it};
 
 use crate::event::Sent;
 
 // The message after which so many were sent.
 pub(crate) fn message(sent: &[Sent], which: usize) -> Option<Sent>
-    ensures { option_map message_of result ≡ sentAt which (messages_of sent.now) }
+    ensures { option_map message_of result ≡ sent_at which (messages_of sent.now) }
 {
     if which >= sent.len() {
         return None;

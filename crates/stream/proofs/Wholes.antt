@@ -28,20 +28,20 @@ pub record Parts (s : List ℕ) : Type 0 where
   pub messages : List (List ℕ)
   pub rest : List ℕ
   pub split : s ≡ flat_map framed messages ++ rest
-  pub open-end : Unfinished rest
+  pub open_end : Unfinished rest
 
-unfinished-none : Unfinished []
-unfinished-none = record { none-whole = ap (λ (h : Held). h.messages) held_none; tells = sym (ap (λ (h : Held). h.cut) held_none) }
+unfinished_none : Unfinished []
+unfinished_none = record { none-whole = ap (λ (h : Held). h.messages) held_none; tells = sym (ap (λ (h : Held). h.cut) held_none) }
 
-unfinished-cut : (n : ℕ) (bs : List ℕ) → length bs < n → Unfinished (n ∷ bs)
-unfinished-cut n bs h =
+unfinished_cut : (n : ℕ) (bs : List ℕ) → length bs < n → Unfinished (n ∷ bs)
+unfinished_cut n bs h =
     let z : eqb (suc (length bs)) 0 ≡ false = ne_eqb (suc (length bs)) 0 (λ e. omega arith) in
     record { none-whole = ap (λ (x : Held). x.messages) (held_cut n bs h); tells = ap not z ∙ sym (ap (λ (x : Held). x.cut) (held_cut n bs h)) }
 
 -- by whether the first message is there
 parts-of : (n : ℕ) (bs : List ℕ) (b : Bool) → ltb (length bs) n ≡ b → Parts (drop n bs) → Parts (n ∷ bs)
 parts-of n bs true e p =
-    record { messages = []; rest = n ∷ bs; split = refl; open-end = unfinished-cut n bs (ltb-true (length bs) n e) }
+    record { messages = []; rest = n ∷ bs; split = refl; open_end = unfinished_cut n bs (ltb-true (length bs) n e) }
 parts-of n bs false e p =
     let l : length (take n bs) ≡ n = length-take-le n bs (ltb-false (length bs) n e) in
     record {
@@ -50,28 +50,28 @@ parts-of n bs false e p =
       split =
           ap₂ (λ (x : ℕ) (y : List ℕ). x ∷ y) (sym l)
           (sym (take-append-drop n bs) ∙ (ap (λ (x : List ℕ). take n bs ++ x) p.split ∙ sym (append_assoc (take n bs) (flat_map framed p.messages) p.rest)));
-      open-end = p.open-end;
+      open_end = p.open_end;
     }
 
-parts-by : (t : ℕ) (s : List ℕ) → length s ≤ t → Parts s
-parts-by t [] h = record { messages = []; rest = []; split = refl; open-end = unfinished-none }
-parts-by zero (n ∷ bs) h = absurd (omega arith)
-parts-by (suc t) (n ∷ bs) h =
+parts_by : (t : ℕ) (s : List ℕ) → length s ≤ t → Parts s
+parts_by t [] h = record { messages = []; rest = []; split = refl; open_end = unfinished_none }
+parts_by zero (n ∷ bs) h = absurd (omega arith)
+parts_by (suc t) (n ∷ bs) h =
     let d = length-drop n bs in
-    parts-of n bs (ltb (length bs) n) refl (parts-by t (drop n bs) (omega arith))
+    parts-of n bs (ltb (length bs) n) refl (parts_by t (drop n bs) (omega arith))
 
 pub parts : (s : List ℕ) → Parts s
-parts s = parts-by (length s) s (omega arith)
+parts s = parts_by (length s) s (omega arith)
 
 pub splits : (s : List ℕ) → s ≡ flat_map framed (whole s) ++ behind s
 splits s =
     let p = parts s in
-    p.split ∙ sym (ap₂ (λ (x : List (List ℕ)) (y : List ℕ). flat_map framed x ++ y) (divided s p.messages p.rest p.split p.open-end.none-whole) (behind-is s p.messages p.rest p.split p.open-end.none-whole))
+    p.split ∙ sym (ap₂ (λ (x : List (List ℕ)) (y : List ℕ). flat_map framed x ++ y) (divided s p.messages p.rest p.split p.open_end.none-whole) (behind-is s p.messages p.rest p.split p.open_end.none-whole))
 
 pub unfinished : (s : List ℕ) → Unfinished (behind s)
 unfinished s =
     let p = parts s in
-    subst Unfinished (sym (behind-is s p.messages p.rest p.split p.open-end.none-whole)) p.open-end
+    subst Unfinished (sym (behind-is s p.messages p.rest p.split p.open_end.none-whole)) p.open_end
 
 -- what follows is read from what stands behind the whole messages
 pub more : (s t : List ℕ) → held (s ++ t) ≡ record { messages = whole s ++ whole (behind s ++ t); cut = (held (behind s ++ t)).cut }
@@ -93,11 +93,11 @@ left_cut kept (c ∷ cs) u =
     left_cut (behind (kept ++ c)) cs (unfinished (kept ++ c))
     ∙ (sym (ap (λ (h : Held). h.cut) (more (kept ++ c) (flat_map same cs))) ∙ ap (λ (x : List ℕ). (held x).cut) (append_assoc kept c (flat_map same cs)))
 
-pub chunks-deliver : ChunksDeliver
-chunks-deliver cs = all-handed [] cs unfinished-none.none-whole
+pub chunks_deliver : ChunksDeliver
+chunks_deliver cs = all-handed [] cs unfinished_none.none-whole
 
-pub end-tells : EndTells
-end-tells cs = left_cut [] cs unfinished-none
+pub end_tells : EndTells
+end_tells cs = left_cut [] cs unfinished_none
 
 -- these messages were heard, and this is what stands behind them
 pub record Handed {S : Type 0} (went : S → List (List ℕ) → S → Type 0) (s : List ℕ) (a : S) (r : List ℕ) (b : S) : Type 0 where
@@ -105,10 +105,10 @@ pub record Handed {S : Type 0} (went : S → List (List ℕ) → S → Type 0) (
   pub split : s ≡ flat_map framed messages ++ r
   pub heard : went a messages b
 
-joined-last : (ms : List (List ℕ)) (m : List ℕ) → flat_map framed (ms ++ (m ∷ [])) ≡ flat_map framed ms ++ framed m
-joined-last [] m = append-nil (framed m)
-joined-last (x ∷ ms) m =
-    ap (λ (y : List ℕ). framed x ++ y) (joined-last ms m) ∙ sym (append_assoc (framed x) (flat_map framed ms) (framed m))
+joined_last : (ms : List (List ℕ)) (m : List ℕ) → flat_map framed (ms ++ (m ∷ [])) ≡ flat_map framed ms ++ framed m
+joined_last [] m = append-nil (framed m)
+joined_last (x ∷ ms) m =
+    ap (λ (y : List ℕ). framed x ++ y) (joined_last ms m) ∙ sym (append_assoc (framed x) (flat_map framed ms) (framed m))
 
 pub handed-more : {S : Type 0} (went : S → List (List ℕ) → S → Type 0)
     → ((a b c : S) (ms : List (List ℕ)) (m : List ℕ) → went a ms b → went b (m ∷ []) c → went a (ms ++ (m ∷ [])) c)
@@ -119,13 +119,13 @@ handed-more went goes s a b c r m rest h e w =
       messages = ms ++ (m ∷ []);
       split =
           h.split ∙ (ap (λ (x : List ℕ). flat_map framed ms ++ x) e
-          ∙ (sym (append_assoc (flat_map framed ms) (framed m) rest) ∙ ap (λ (x : List ℕ). x ++ rest) (sym (joined-last ms m))));
+          ∙ (sym (append_assoc (flat_map framed ms) (framed m) rest) ∙ ap (λ (x : List ℕ). x ++ rest) (sym (joined_last ms m))));
       heard = goes a b c ms m h.heard w;
     }
 
-get_or-behind : (ms : List (List ℕ)) (m : List ℕ) (rest : List (List ℕ)) → get_or (ms ++ (m ∷ rest)) (length ms) [] ≡ m
-get_or-behind [] m rest = refl
-get_or-behind (x ∷ ms) m rest = get_or-behind ms m rest
+get_or_behind : (ms : List (List ℕ)) (m : List ℕ) (rest : List (List ℕ)) → get_or (ms ++ (m ∷ rest)) (length ms) [] ≡ m
+get_or_behind [] m rest = refl
+get_or_behind (x ∷ ms) m rest = get_or_behind ms m rest
 
 pub fails : {S : Type 0} (went : S → List (List ℕ) → S → Type 0) (stopped : S → List ℕ → S → Type 0)
     → (s : List ℕ) (a b c : S) (r m rest : List ℕ) → Handed went s a r b → r ≡ framed m ++ rest → stopped b m c → Fails went stopped s a c
@@ -139,7 +139,7 @@ fails went stopped s a b c r m rest h e x =
       some = omega (arith, ap length w, length-append ms (m ∷ whole rest));
       between = b;
       heard = subst (λ (y : List (List ℕ)). went a y b) (sym (ap (take (length ms)) w ∙ take_at ms (m ∷ whole rest) (length ms) refl)) h.heard;
-      failed = subst (λ (y : List ℕ). stopped b y c) (sym (ap (λ (y : List (List ℕ)). get_or y (length ms) []) w ∙ get_or-behind ms m (whole rest))) x;
+      failed = subst (λ (y : List ℕ). stopped b y c) (sym (ap (λ (y : List (List ℕ)). get_or y (length ms) []) w ∙ get_or_behind ms m (whole rest))) x;
     }
 
 pub delivers : {S : Type 0} (went : S → List (List ℕ) → S → Type 0) → (s : List ℕ) (a b : S) (r : List ℕ)

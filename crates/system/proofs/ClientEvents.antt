@@ -11,20 +11,20 @@ use Rattle.lease.specs.Holding.{nothing, settled}
 use Rattle.lease.specs.World as core
 use Rattle.lease.specs.World.{Message, Requests, Grants, World, knowing_nothing, elem}
 use Rattle.lease.specs.Run as run
-use Rattle.lease.specs.Run.{asks, asked as asks-with, client_hears, client_passes, hearing, with_client}
+use Rattle.lease.specs.Run.{asks, asked as asks_with, client_hears, client_passes, hearing, with_client}
 use Rattle.lease.proofs.Options.{none-some, some_same}
 use Rattle.lease.proofs.Claims.{In}
 use Rattle.lease.proofs.Sound.{Kept, Moments, Sound, same}
-use Rattle.lease.proofs.ClientSteps as client-steps
-use Rattle.lease.proofs.Passing.{clients-pass}
+use Rattle.lease.proofs.ClientSteps as client_steps
+use Rattle.lease.proofs.Passing.{clients_pass}
 use Rattle.lease.proofs.Keeping.{Tidy}
 use Rattle.client.specs.Client.{Client}
 use Rattle.system.specs.Parties.{Parties, places}
 use Rattle.system.specs.Watch.{Lead, Watch, requested, same_request}
 use Rattle.system.proofs.Watching.{request-same}
-use Rattle.system.proofs.Queueing.{elem_back, elem-here, elem-later, elem-not, elem-one, distinct_head}
+use Rattle.system.proofs.Queueing.{elem_back, elem-here, elem-later, elem_not, elem-one, distinct_head}
 use Rattle.client.specs.Nonces.{Distinct}
-use Rattle.system.proofs.Following.{Moment, Queues, Base, ticked, pass-none}
+use Rattle.system.proofs.Following.{Moment, Queues, Base, ticked, pass_none}
 
 pub at_here : {A : Type 0} (i : ℕ) (c : A) (f : ℕ → A) → at i c f i ≡ c
 at_here i c f = cond-true (eqb i i) c (f i) (eq-eqb i i refl)
@@ -32,14 +32,14 @@ at_here i c f = cond-true (eqb i i) c (f i) (eq-eqb i i refl)
 pub at_other : {A : Type 0} (i : ℕ) (c : A) (f : ℕ → A) (l : ℕ) → (l ≡ i → ⊥) → at i c f l ≡ f l
 at_other i c f l d = cond-false (eqb l i) c (f l) (ne_eqb l i d)
 
-requested-either : (r : asked.Request) (rs qs : List asked.Request) → requested r (rs ++ qs) ≡ true → (requested r rs ≡ true) ⊎ (requested r qs ≡ true)
+requested_either : (r : asked.Request) (rs qs : List asked.Request) → requested r (rs ++ qs) ≡ true → (requested r rs ≡ true) ⊎ (requested r qs ≡ true)
 unfolding requested
-requested-either r [] qs e = inr e
-requested-either r (q ∷ rs) qs e = either-so (same_request r q) (requested r (rs ++ qs)) (requested r rs) (requested r qs) (λ f. requested-either r rs qs f) e
+requested_either r [] qs e = inr e
+requested_either r (q ∷ rs) qs e = either_so (same_request r q) (requested r (rs ++ qs)) (requested r rs) (requested r qs) (λ f. requested_either r rs qs f) e
   where
-    either-so : (b : Bool) (P Q R : Bool) → ((P ≡ true) → (Q ≡ true) ⊎ (R ≡ true)) → (b || P) ≡ true → ((b || Q) ≡ true) ⊎ (R ≡ true)
-    either-so true P Q R f e = inl refl
-    either-so false P Q R f e = f e
+    either_so : (b : Bool) (P Q R : Bool) → ((P ≡ true) → (Q ≡ true) ⊎ (R ≡ true)) → (b || P) ≡ true → ((b || Q) ≡ true) ⊎ (R ≡ true)
+    either_so true P Q R f e = inl refl
+    either_so false P Q R f e = f e
 
 module _ (k : model.Settings) (p : ℕ) (x : Parties) (w : Watch) (b : Base k p x w) (i : ℕ) (i< : i < places) where
   abbrev c₀ : Client
@@ -79,7 +79,7 @@ module _ (k : model.Settings) (p : ℕ) (x : Parties) (w : Watch) (b : Base k p 
     pub record Watches : Type 0 where
       pub known : is_some w.settings ≡ true → is_some a.settings ≡ true
       pub others : (l : ℕ) → (l ≡ i → ⊥) → a.leads l ≡ w.leads l
-      pub own-stays : (c : ℕ) → c₀.state.own ≡ Some c → own' ≡ Some c
+      pub own_stays : (c : ℕ) → c₀.state.own ≡ Some c → own' ≡ Some c
 
     module _ (q : Watches) where
       -- moments of other clients stay
@@ -105,7 +105,7 @@ module _ (k : model.Settings) (p : ℕ) (x : Parties) (w : Watch) (b : Base k p 
                   known = q.known m.known;
                   place = i;
                   within = i<;
-                  own = ap (λ (z : Client). z.state.own) here ∙ q.own-stays d o;
+                  own = ap (λ (z : Client). z.state.own) here ∙ q.own_stays d o;
                   lead = m.lead;
                   noted = stays m.lead (subst (λ (z : ℕ). w.leads z ≡ Some m.lead) e m.noted);
                   at = m.at;
@@ -165,7 +165,7 @@ module _ (k : model.Settings) (p : ℕ) (x : Parties) (w : Watch) (b : Base k p 
       begun c o was clock up =
           record {
             world = with_client c (knowing_nothing clock up) b.world;
-            sound = client-steps.client-forgets k S S' b.world b.sound c clock up (kept_but c was);
+            sound = client_steps.client-forgets k S S' b.world b.sound c clock up (kept_but c was);
             server = refl;
             messages = refl;
             drawn = refl;
@@ -181,7 +181,7 @@ module _ (k : model.Settings) (p : ℕ) (x : Parties) (w : Watch) (b : Base k p 
             let h : core.Client → core.Client = λ z. settled z (hearing k.term c g z) in
             record {
               world = client_hears k c (Some (Grants g)) b.world;
-              sound = client-steps.client-hears k S S' b.world b.sound c (kept-all stays) (Some (Grants g)) (λ m q. subst (λ (z : Message). In z b.world.messages) (some_same _ _ q) sent);
+              sound = client_steps.client-hears k S S' b.world b.sound c (kept-all stays) (Some (Grants g)) (λ m q. subst (λ (z : Message). In z b.world.messages) (some_same _ _ q) sent);
               server = refl;
               messages = refl;
               drawn = refl;
@@ -201,7 +201,7 @@ module _ (k : model.Settings) (p : ℕ) (x : Parties) (w : Watch) (b : Base k p 
                 messages = b.world.messages;
                 drawn = b.world.drawn;
               };
-              sound = clients-pass k S S' b.world b.sound g (kept-all stays);
+              sound = clients_pass k S S' b.world b.sound g (kept-all stays);
               server = refl;
               messages = refl;
               drawn = refl;
@@ -210,7 +210,7 @@ module _ (k : model.Settings) (p : ℕ) (x : Parties) (w : Watch) (b : Base k p 
                   ap (λ (n : ℕ). client_passes n (b.world.clients d)) (cond-true (eqb d c) 1 0 (eq-eqb d c z)) ∙ ap (λ (n : ℕ). client_passes 1 (b.world.clients n)) z ∙ ap (client_passes 1) e;
               others = λ d ne.
                   ap (λ (n : ℕ). client_passes n (b.world.clients d)) (cond-false (eqb d c) 1 0 (ne_eqb d c (λ q. ne (o ∙ ap (λ (z : ℕ). Some z) (sym q)))))
-                  ∙ pass-none (b.world.clients d) (λ u q. ((b.sound.holds d).uses u q).now);
+                  ∙ pass_none (b.world.clients d) (λ u q. ((b.sound.holds d).uses u q).now);
             }
 
       -- what the client's event comes to in the world
@@ -239,16 +239,16 @@ module _ (k : model.Settings) (p : ℕ) (x : Parties) (w : Watch) (b : Base k p 
           ]
 
       -- all queues, where its own has some of these, and the others are not among those that are used up now
-      queues-so : (qs drawn : List ℕ) → AtHand qs → Distinct a.client.nonces → ((n : ℕ) → elem n a.client.nonces ≡ true → elem n qs ≡ true) →
+      queues_so : (qs drawn : List ℕ) → AtHand qs → Distinct a.client.nonces → ((n : ℕ) → elem n a.client.nonces ≡ true → elem n qs ≡ true) →
           ((n : ℕ) → elem n a.client.nonces ≡ true → elem n drawn ≡ false) → ((n : ℕ) → elem n drawn ≡ true → (elem n b.world.drawn ≡ true) ⊎ (elem n qs ≡ true)) → Queues y v₀ drawn
-      queues-so qs drawn h dist sub own old =
+      queues_so qs drawn h dist sub own old =
           record {
             distinct = λ l l<. by_place l (λ z. Distinct z.nonces) (λ e. dist) (λ e. b.queues.distinct l l<);
             apart = λ l m n l< m<. by_place l (λ z. elem n z.nonces ≡ true → elem n (y.clients m).nonces ≡ true → l ≡ m)
                 (λ e g. by_place m (λ z. elem n z.nonces ≡ true → l ≡ m) (λ o q. e ∙ sym o) (λ o q. absurd (h.apart m n m< o (sub n g) q)))
                 (λ e g. by_place m (λ z. elem n z.nonces ≡ true → l ≡ m) (λ o q. absurd (h.apart l n l< e (sub n q) g)) (λ o q. b.queues.apart l m n l< m< g q));
             unused = λ l n l<. by_place l (λ z. elem n z.nonces ≡ true → elem n drawn ≡ false) (λ e g. own n g)
-                (λ e g. elem-not n drawn (λ q. elim (old n q) [
+                (λ e g. elem_not n drawn (λ q. elim (old n q) [
                   | inl p ↦ both_ways _ (b.queues.unused l n l< g) p
                   | inr p ↦ h.apart l n l< e p g
                 ]));
@@ -274,14 +274,14 @@ module _ (k : model.Settings) (p : ℕ) (x : Parties) (w : Watch) (b : Base k p 
             mine = m.mine;
             others = m.others;
             queues = subst (λ (z : List ℕ). Queues y v₀ z) (sym m.drawn)
-                (queues-so a.client.nonces b.world.drawn hh hh.distinct (λ n g. g) hh.unused (λ n g. inl g));
+                (queues_so a.client.nonces b.world.drawn hh hh.distinct (λ n g. g) hh.unused (λ n g. inl g));
           }
 
       -- IT ASKS, with the first of these
-      pub asks-then : (c n pref : ℕ) → AtHand (n ∷ a.client.nonces) → own' ≡ Some c → a.requests ≡ record { client = c; nonce = n; preferred = pref } ∷ [] →
-          (h : core.Client) → h.up ≡ true → a.client.state.holder ≡ asks-with n h → Moved h → Final
+      pub asks_then : (c n pref : ℕ) → AtHand (n ∷ a.client.nonces) → own' ≡ Some c → a.requests ≡ record { client = c; nonce = n; preferred = pref } ∷ [] →
+          (h : core.Client) → h.up ≡ true → a.client.state.holder ≡ asks_with n h → Moved h → Final
       unfolding requested
-      asks-then c n pref q o one h up e m =
+      asks_then c n pref q o one h up e m =
           let r : asked.Request = record { client = c; nonce = n; preferred = pref } in
           let u : World = m.world in
           let fresh : elem n u.drawn ≡ false = subst (λ (z : List ℕ). elem n z ≡ false) (sym m.drawn) (q.unused n (elem-here n a.client.nonces)) in
@@ -291,15 +291,15 @@ module _ (k : model.Settings) (p : ℕ) (x : Parties) (w : Watch) (b : Base k p 
           let z : asks c n pref u ≡ w₂ = cond-true ((u.clients c).up && not (elem n u.drawn)) w₂ u able in
           record {
             world = w₂;
-            sound = subst (λ (y : World). Sound k S' y) z (client-steps.client-asks k S' S' u m.sound c n pref (λ d t s g. g));
+            sound = subst (λ (y : World). Sound k S' y) z (client_steps.client-asks k S' S' u m.sound c n pref (λ d t s g. g));
             server = m.server;
             messages = λ g i. inr (subst (λ (y : List Message). In g y) (sym m.messages) i);
             asked = λ g i. inl (ap (λ (y : asked.Request). Requests y) (only g r (sym (ap (λ (y : List asked.Request). requested g y) one) ∙ i)));
-            mine = λ d g. let s : d ≡ c = some_same d c (sym g ∙ o) in cond-true (eqb d c) (asks-with n (u.clients c)) (u.clients d) (eq-eqb d c s) ∙ ap (asks-with n) me ∙ sym e;
-            others = λ d ne. at_other c (asks-with n (u.clients c)) u.clients d (λ g. ne (o ∙ ap (λ (y : ℕ). Some y) (sym g))) ∙ m.others d ne;
+            mine = λ d g. let s : d ≡ c = some_same d c (sym g ∙ o) in cond-true (eqb d c) (asks_with n (u.clients c)) (u.clients d) (eq-eqb d c s) ∙ ap (asks_with n) me ∙ sym e;
+            others = λ d ne. at_other c (asks_with n (u.clients c)) u.clients d (λ g. ne (o ∙ ap (λ (y : ℕ). Some y) (sym g))) ∙ m.others d ne;
             queues = subst (λ (y : List ℕ). Queues (record { server = x.server; clients = at i a.client x.clients }) v₀ (n ∷ y)) (sym m.drawn)
-                (queues-so (n ∷ a.client.nonces) (n ∷ b.world.drawn) q (distinct_head n a.client.nonces q.distinct).1 (λ g i. elem-later g n a.client.nonces i)
-                (λ g i. elem-not g (n ∷ b.world.drawn) (λ s. elim (elem-one g n b.world.drawn s) [
+                (queues_so (n ∷ a.client.nonces) (n ∷ b.world.drawn) q (distinct_head n a.client.nonces q.distinct).1 (λ g i. elem-later g n a.client.nonces i)
+                (λ g i. elem_not g (n ∷ b.world.drawn) (λ s. elim (elem-one g n b.world.drawn s) [
                   | inl t ↦ both_ways _ (distinct_head n a.client.nonces q.distinct).0 (subst (λ (y : ℕ). elem y a.client.nonces ≡ true) t i)
                   | inr t ↦ both_ways _ (q.unused g (elem-later g n a.client.nonces i)) t
                 ]))
@@ -330,7 +330,7 @@ module _ (k : model.Settings) (p : ℕ) (x : Parties) (w : Watch) (b : Base k p 
               | inl o ↦ (i, i<, ap (λ (q : Client). q.state.own) here ∙ o)
               | inr ne ↦
                   let l : (l : ℕ) × (l < places) × ((x.clients l).state.own ≡ Some c) = b.owned c (ap (λ (q : core.Client). q.up) (sym (z.others c ne)) ∙ up) in
-                  let off : l.0 ≡ i → ⊥ = λ e. ne (q.own-stays c (subst (λ (n : ℕ). (x.clients n).state.own ≡ Some c) e l.2)) in
+                  let off : l.0 ≡ i → ⊥ = λ e. ne (q.own_stays c (subst (λ (n : ℕ). (x.clients n).state.own ≡ Some c) e l.2)) in
                   (l.0, l.1, ap (λ (q : Client). q.state.own) (there l.0 off) ∙ l.2)
             ]
 
@@ -352,7 +352,7 @@ module _ (k : model.Settings) (p : ℕ) (x : Parties) (w : Watch) (b : Base k p 
                   (λ e o. by_place m (λ g. g.state.own ≡ Some c → l ≡ m) (λ s t. absurd (alone l c l< e o t)) (λ s t. b.alone l m c l< m< o t));
               agreed = λ l m l<. by_place l (λ g. g.state.settings ≡ Some m → m ≡ k) (λ e o. agreed m o) (λ e o. b.agreed l m l< o);
               told = λ m e. ((b.told m e).0, q.known (b.told m e).1);
-              requests = λ r e. elim (requested-either r a.requests w.requests e) [
+              requests = λ r e. elim (requested_either r a.requests w.requests e) [
                 | inl s ↦ z.asked r s
                 | inr s ↦ z.messages _ (b.requests r s)
               ];

@@ -25,9 +25,9 @@ use Rattle.client.proofs.Turns.{Turned, turned}
 use Rattle.client.proofs.Steps.{requests-++}
 use Rattle.system.specs.Parties.{Parties, Event, ToClient, Outcome, client_does, places}
 use Rattle.system.specs.Watch.{Lead, Watch, anew, nonce_in, or_first, start_in, unsent_grant, watched}
-use Rattle.system.proofs.Turning.{HolderBy, OwnBy, TurnedBy, client-hears, may-ask, turned_by}
+use Rattle.system.proofs.Turning.{HolderBy, OwnBy, TurnedBy, client-hears, may_ask, turned_by}
 use Rattle.system.proofs.Watching.{Unbroken, known-first, none_below, numbers_apart}
-use Rattle.system.proofs.Queueing.{distinct-join, elem_back, elem-either, elem-front, elem-not, lent-distinct, lends-is, none_in}
+use Rattle.system.proofs.Queueing.{distinct_join, elem_back, elem_either, elem_front, elem_not, lent_distinct, lends-is, none_in}
 use Rattle.system.proofs.Serving.{told-first}
 use Rattle.system.proofs.Following.{Base}
 use Rattle.system.proofs.ClientEvents as events
@@ -45,11 +45,11 @@ hears-up : (term c : ℕ) (g : given.Grant) (x : core.Client) → (settled x (he
 hears-up term c g x = cond_both x.up _ _ (λ (r : Result core.Client lease.Fault). (settled x r).up ≡ x.up) (λ e. held_up x (taking term x.clock c g x.holding)) (λ e. refl)
 
 -- a client that holds nothing
-idle-is : (x : core.Client) → x.holding ≡ nothing → x ≡ knowing_nothing x.clock x.up
-idle-is x e = let f : Holding → core.Client = λ h. record { clock = x.clock; up = x.up; holding = h } in ap f e
+idle_is : (x : core.Client) → x.holding ≡ nothing → x ≡ knowing_nothing x.clock x.up
+idle_is x e = let f : Holding → core.Client = λ h. record { clock = x.clock; up = x.up; holding = h } in ap f e
 
-idle-passes : (n : ℕ) (x : core.Client) → x.holding ≡ nothing → (client_passes n x).holding ≡ nothing
-idle-passes n x e =
+idle_passes : (n : ℕ) (x : core.Client) → x.holding ≡ nothing → (client_passes n x).holding ≡ nothing
+idle_passes n x e =
     cond_both x.up _ x (λ (z : core.Client). z.holding ≡ nothing)
     (λ up. ap (later (x.clock + n)) e) (λ down. e)
 
@@ -109,31 +109,31 @@ module _ (k : model.Settings) (p : ℕ) (x : Parties) (w : Watch) (b : Base k p 
     unnumbered none Crash h o = unseen none o
     unnumbered none (Restart clock) h o = unseen none o
     unnumbered none (OwnNumber n) h o =
-        here _ (h ∙ idle-is c₀.state.holder (b.idle i i< none)) (events.begun k p x w b i i< a q n (own-so ∙ o.1) (inl none) c₀.state.holder.clock c₀.state.holder.up)
+        here _ (h ∙ idle_is c₀.state.holder (b.idle i i< none)) (events.begun k p x w b i i< a q n (own-so ∙ o.1) (inl none) c₀.state.holder.clock c₀.state.holder.up)
     unnumbered none (Nonce n) h o = unseen none o
     unnumbered none (InUse u v) h o = unseen none o
     unnumbered none NoAddress h o = unseen none o
     unnumbered none (Fault f) h o = unseen none o
 
-    turn-moves : (o : Option ℕ) → c₀.state.own ≡ o → Moved t.state.holder
-    turn-moves None e = unnumbered e m by.holder by.own
-    turn-moves (Some c) e = numbered c e m refl by.holder by.own
+    turn_moves : (o : Option ℕ) → c₀.state.own ≡ o → Moved t.state.holder
+    turn_moves None e = unnumbered e m by.holder by.own
+    turn_moves (Some c) e = numbered c e m refl by.holder by.own
 
   -- WITHOUT A NUMBER it holds nothing
-  idle-by : (n : Message) (h : core.Client) → c₀.state.own ≡ None → HolderBy n c₀.state h → h.holding ≡ nothing
-  idle-by (Request r) h none e = ap (λ (z : core.Client). z.holding) e ∙ b.idle i i< none
-  idle-by (Grant g) h none (inl e) = ap (λ (z : core.Client). z.holding) e ∙ b.idle i i< none
-  idle-by (Grant g) h none (inr e) = absurd (none-some e.0 (sym none ∙ e.2))
-  idle-by (Settings n t e₁) h none e = ap (λ (z : core.Client). z.holding) e ∙ b.idle i i< none
-  idle-by Tick h none e = ap (λ (z : core.Client). z.holding) e ∙ idle-passes 1 c₀.state.holder (b.idle i i< none)
-  idle-by Crash h none (inl e) = ap (λ (z : core.Client). z.holding) e.1
-  idle-by Crash h none (inr e) = ap (λ (z : core.Client). z.holding) e.1 ∙ b.idle i i< none
-  idle-by (Restart clock) h none e = ap (λ (z : core.Client). z.holding) e.1
-  idle-by (OwnNumber n) h none e = ap (λ (z : core.Client). z.holding) e ∙ b.idle i i< none
-  idle-by (Nonce n) h none e = ap (λ (z : core.Client). z.holding) e ∙ b.idle i i< none
-  idle-by (InUse a u) h none e = ap (λ (z : core.Client). z.holding) e ∙ b.idle i i< none
-  idle-by NoAddress h none e = ap (λ (z : core.Client). z.holding) e ∙ b.idle i i< none
-  idle-by (Fault f) h none e = ap (λ (z : core.Client). z.holding) e ∙ b.idle i i< none
+  idle_by : (n : Message) (h : core.Client) → c₀.state.own ≡ None → HolderBy n c₀.state h → h.holding ≡ nothing
+  idle_by (Request r) h none e = ap (λ (z : core.Client). z.holding) e ∙ b.idle i i< none
+  idle_by (Grant g) h none (inl e) = ap (λ (z : core.Client). z.holding) e ∙ b.idle i i< none
+  idle_by (Grant g) h none (inr e) = absurd (none-some e.0 (sym none ∙ e.2))
+  idle_by (Settings n t e₁) h none e = ap (λ (z : core.Client). z.holding) e ∙ b.idle i i< none
+  idle_by Tick h none e = ap (λ (z : core.Client). z.holding) e ∙ idle_passes 1 c₀.state.holder (b.idle i i< none)
+  idle_by Crash h none (inl e) = ap (λ (z : core.Client). z.holding) e.1
+  idle_by Crash h none (inr e) = ap (λ (z : core.Client). z.holding) e.1 ∙ b.idle i i< none
+  idle_by (Restart clock) h none e = ap (λ (z : core.Client). z.holding) e.1
+  idle_by (OwnNumber n) h none e = ap (λ (z : core.Client). z.holding) e ∙ b.idle i i< none
+  idle_by (Nonce n) h none e = ap (λ (z : core.Client). z.holding) e ∙ b.idle i i< none
+  idle_by (InUse a u) h none e = ap (λ (z : core.Client). z.holding) e ∙ b.idle i i< none
+  idle_by NoAddress h none e = ap (λ (z : core.Client). z.holding) e ∙ b.idle i i< none
+  idle_by (Fault f) h none e = ap (λ (z : core.Client). z.holding) e ∙ b.idle i i< none
 
   -- a number that it has it keeps
   own-kept : (n : Message) (o : Option ℕ) (c : ℕ) → OwnBy n c₀.state o → c₀.state.own ≡ Some c → o ≡ Some c
@@ -149,9 +149,9 @@ module _ (k : model.Settings) (p : ℕ) (x : Parties) (w : Watch) (b : Base k p 
   own-kept NoAddress o c e was = e ∙ was
   own-kept (Fault f) o c e was = e ∙ was
 
-  had-none : (n : Message) (o s : Option ℕ) → c₀.state.own ≡ s → OwnBy n c₀.state o → o ≡ None → c₀.state.own ≡ None
-  had-none n o None e by none = e
-  had-none n o (Some c) e by none = absurd (none-some c (sym none ∙ own-kept n o c by e))
+  had_none : (n : Message) (o s : Option ℕ) → c₀.state.own ≡ s → OwnBy n c₀.state o → o ≡ None → c₀.state.own ≡ None
+  had_none n o None e by none = e
+  had_none n o (Some c) e by none = absurd (none-some c (sym none ∙ own-kept n o c by e))
 
   -- THE STEP
   module _ (bs : List ℕ) (judged : Bool) where
@@ -190,19 +190,19 @@ module _ (k : model.Settings) (p : ℕ) (x : Parties) (w : Watch) (b : Base k p 
       leads-others : (l : ℕ) → (l ≡ i → ⊥) → anew e y w.leads l ≡ w.leads l
       leads-others l ne = cond_both reset (at i None w.leads) w.leads (λ ls. ls l ≡ w.leads l) (λ r. at_other i None w.leads l ne) (λ r. refl)
 
-      leads-down : st.client.state.holder.up ≡ false → anew e y w.leads i ≡ None
-      leads-down down =
+      leads_down : st.client.state.holder.up ≡ false → anew e y w.leads i ≡ None
+      leads_down down =
           ap (λ (ls : ℕ → Option Lead). ls i) (cond-true reset (at i None w.leads) w.leads
           (or_right (is_some (start_in (read bs))) (not (y.clients i).state.holder.up) (ap not (ap (λ (z : Client). z.state.holder.up) mine ∙ down)))) ∙ at_here i None w.leads
 
-      leads-stay : start_in (read bs) ≡ None → st.client.state.holder.up ≡ c₀.state.holder.up → (d : Lead) → w.leads i ≡ Some d → anew e y w.leads i ≡ Some d
-      leads-stay s up d g =
+      leads_stay : start_in (read bs) ≡ None → st.client.state.holder.up ≡ c₀.state.holder.up → (d : Lead) → w.leads i ≡ Some d → anew e y w.leads i ≡ Some d
+      leads_stay s up d g =
           let was : c₀.state.holder.up ≡ true = elim (cases_Bool c₀.state.holder.up) [ inl h ↦ h | inr h ↦ absurd (none-some d (sym (b.quiet i i< h) ∙ g)) ] in
           let r : reset ≡ false = ap (λ (o : Option ℕ). is_some o || not (y.clients i).state.holder.up) s ∙ ap not (ap (λ (z : Client). z.state.holder.up) mine ∙ up ∙ was) in
           ap (λ (ls : ℕ → Option Lead). ls i) (cond-false reset (at i None w.leads) w.leads r) ∙ g
 
       watches : ((c : ℕ) → c₀.state.own ≡ Some c → st.client.state.own ≡ Some c) → events.Watches k p x w b i i< (left st)
-      watches own = record { known = told-first w.settings (y.clients i).state.settings; others = leads-others; own-stays = own }
+      watches own = record { known = told-first w.settings (y.clients i).state.settings; others = leads-others; own_stays = own }
 
       agreed : (j : model.Settings) → st.client.state.settings ≡ Some j → j ≡ k
       agreed j g =
@@ -216,26 +216,26 @@ module _ (k : model.Settings) (p : ℕ) (x : Parties) (w : Watch) (b : Base k p 
 
       assemble : (own : (c : ℕ) → c₀.state.own ≡ Some c → st.client.state.own ≡ Some c) → events.Final k p x w b i i< (left st) (watches own) →
           (st.client.state.own ≡ None → st.client.state.holder.holding ≡ nothing) → Base k p y (watched false e (made_of st) w)
-      assemble own z idle = events.assembled k p x w b i i< (left st) (watches own) z idle alone agreed leads-down
+      assemble own z idle = events.assembled k p x w b i i< (left st) (watches own) z idle alone agreed leads_down
 
       -- the nonces at hand, with those that the message lends
-      at-hand : (own : (c : ℕ) → c₀.state.own ≡ Some c → st.client.state.own ≡ Some c) (ms : List ℕ) → ((n : ℕ) → elem n ms ≡ true → elem n (nonce_in (read bs)) ≡ true) → Distinct ms →
+      at_hand_lem : (own : (c : ℕ) → c₀.state.own ≡ Some c → st.client.state.own ≡ Some c) (ms : List ℕ) → ((n : ℕ) → elem n ms ≡ true → elem n (nonce_in (read bs)) ≡ true) → Distinct ms →
           events.AtHand k p x w b i i< (left st) (watches own) (c₀.nonces ++ ms)
-      at-hand own ms sub dist =
+      at_hand_lem own ms sub dist =
           let new : (n : ℕ) → elem n ms ≡ true → elem n w.nonces ≡ false = λ n h. none_in (nonce_in (read bs)) w.nonces u.nonces n (sub n h) in
           record {
-            distinct = distinct-join c₀.nonces ms (b.queues.distinct i i<) dist (λ n h g. both_ways _ (new n g) (b.queues.lent i n i< h));
-            apart = λ l n l< ne h g. elim (elem-either n c₀.nonces ms h) [
+            distinct = distinct_join c₀.nonces ms (b.queues.distinct i i<) dist (λ n h g. both_ways _ (new n g) (b.queues.lent i n i< h));
+            apart = λ l n l< ne h g. elim (elem_either n c₀.nonces ms h) [
               | inl s ↦ ne (sym (b.queues.apart i l n i< l< s g))
               | inr s ↦ both_ways _ (new n s) (b.queues.lent l n l< g)
             ];
-            unused = λ n h. elim (elem-either n c₀.nonces ms h) [
+            unused = λ n h. elim (elem_either n c₀.nonces ms h) [
               | inl s ↦ b.queues.unused i n i< s
-              | inr s ↦ elem-not n b.world.drawn (λ g. both_ways _ (new n s) (b.queues.spent n g))
+              | inr s ↦ elem_not n b.world.drawn (λ g. both_ways _ (new n s) (b.queues.spent n g))
             ];
-            lent = λ n h. elim (elem-either n c₀.nonces ms h) [
+            lent = λ n h. elim (elem_either n c₀.nonces ms h) [
               | inl s ↦ elem_back n (nonce_in (read bs)) w.nonces (b.queues.lent i n i< s)
-              | inr s ↦ elem-front n (nonce_in (read bs)) w.nonces (sub n s)
+              | inr s ↦ elem_front n (nonce_in (read bs)) w.nonces (sub n s)
             ];
           }
 
@@ -249,9 +249,9 @@ module _ (k : model.Settings) (p : ℕ) (x : Parties) (w : Watch) (b : Base k p 
         let st : client.Step = refuses f c₀ in
         let own : (c : ℕ) → c₀.state.own ≡ Some c → c₀.state.own ≡ Some c = λ c h. h in
         let m : events.Moved k p x w b i i< (left st) (watches st u fin own) c₀.state.holder =
-        events.unmoved k p x w b i i< (left st) (watches st u fin own) (leads-stay st u fin s refl) (λ c h. h) in
+        events.unmoved k p x w b i i< (left st) (watches st u fin own) (leads_stay st u fin s refl) (λ c h. h) in
         assemble st u fin own
-        (events.unasked k p x w b i i< (left st) (watches st u fin own) (c₀.nonces ++ []) (at-hand st u fin own [] (λ n h. absurd (both_ways false refl h)) tt) (sym (nothing_lent c₀.nonces)) refl m)
+        (events.unasked k p x w b i i< (left st) (watches st u fin own) (c₀.nonces ++ []) (at_hand_lem st u fin own [] (λ n h. absurd (both_ways false refl h)) tt) (sym (nothing_lent c₀.nonces)) refl m)
         (b.idle i i<)
 
     module _ (m : Message) (t : Turn) (r : read bs ≡ Some m) (d : does m c₀.state ≡ Ok t) where
@@ -264,17 +264,17 @@ module _ (k : model.Settings) (p : ℕ) (x : Parties) (w : Watch) (b : Base k p 
       keeps-own : (c : ℕ) → c₀.state.own ≡ Some c → t.state.own ≡ Some c
       keeps-own c was = own-kept m t.state.own c by.own was
 
-      idle-turn : t.state.own ≡ None → t.state.holder.holding ≡ nothing
-      idle-turn none = idle-by m t.state.holder (had-none m t.state.own c₀.state.own refl by.own none) by.holder
+      idle_turn : t.state.own ≡ None → t.state.holder.holding ≡ nothing
+      idle_turn none = idle_by m t.state.holder (had_none m t.state.own c₀.state.own refl by.own none) by.holder
 
-      lent-so : (n : ℕ) → elem n (lends m) ≡ true → elem n (nonce_in (read bs)) ≡ true
-      lent-so n h = subst (λ (z : List ℕ). elem n z ≡ true) (sym (ap nonce_in r ∙ lends-is m)) h
+      lent_so : (n : ℕ) → elem n (lends m) ≡ true → elem n (nonce_in (read bs)) ≡ true
+      lent_so n h = subst (λ (z : List ℕ). elem n z ≡ true) (sym (ap nonce_in r ∙ lends-is m)) h
 
       grant-sent : unsent_grant (read bs) w ≡ false → (g : given.Grant) → m ≡ Grant g → In (Grants g) b.world.messages
       grant-sent s g z = b.grants g (not-false _ (ap (λ (o : Option Message). unsent_grant o w) (sym (r ∙ ap (λ (n : Message). Some n) z)) ∙ s))
 
-      start-so : start_in (Some m) ≡ None → start_in (read bs) ≡ None
-      start-so s = ap start_in r ∙ s
+      start_so : start_in (Some m) ≡ None → start_in (read bs) ≡ None
+      start_so s = ap start_in r ∙ s
 
       quietly : Good (keeps t (queued m c₀.nonces))
       quietly u fin =
@@ -282,10 +282,10 @@ module _ (k : model.Settings) (p : ℕ) (x : Parties) (w : Watch) (b : Base k p 
           let a : Left k p x w b i i< = left st in
           let q : events.Watches k p x w b i i< a = watches st u fin keeps-own in
           let moved : events.Moved k p x w b i i< a q t.state.holder =
-          turn-moves a q m t by refl (λ s up. leads-stay st u fin (start-so s) up) (grant-sent u.sent) c₀.state.own refl in
+          turn_moves a q m t by refl (λ s up. leads_stay st u fin (start_so s) up) (grant-sent u.sent) c₀.state.own refl in
           assemble st u fin keeps-own
-          (events.unasked k p x w b i i< a q (c₀.nonces ++ lends m) (at-hand st u fin keeps-own (lends m) lent-so (lent-distinct m)) refl silent moved)
-          idle-turn
+          (events.unasked k p x w b i i< a q (c₀.nonces ++ lends m) (at_hand_lem st u fin keeps-own (lends m) lent_so (lent_distinct m)) refl silent moved)
+          idle_turn
 
       asking : (j : model.Settings) (c n : ℕ) (ns : List ℕ) → t.state.own ≡ Some c → queued m c₀.nonces ≡ n ∷ ns → t.state.holder.up ≡ true → Good (sends j c n t ns)
       unfolding requests
@@ -295,17 +295,17 @@ module _ (k : model.Settings) (p : ℕ) (x : Parties) (w : Watch) (b : Base k p 
           let q : events.Watches k p x w b i i< a = watches st u fin keeps-own in
           let rq : asked.Request = record { client = c; nonce = n; preferred = client.preferred j t.state.last } in
           let moved : events.Moved k p x w b i i< a q t.state.holder =
-          turn-moves a q m t by refl (λ s up. leads-stay st u fin (start-so s) up) (grant-sent u.sent) c₀.state.own refl in
+          turn_moves a q m t by refl (λ s up. leads_stay st u fin (start_so s) up) (grant-sent u.sent) c₀.state.own refl in
           let hand : events.AtHand k p x w b i i< a q (n ∷ ns) =
-          subst (λ (z : List ℕ). events.AtHand k p x w b i i< a q z) e (at-hand st u fin keeps-own (lends m) lent-so (lent-distinct m)) in
+          subst (λ (z : List ℕ). events.AtHand k p x w b i i< a q z) e (at_hand_lem st u fin keeps-own (lends m) lent_so (lent_distinct m)) in
           let said : requests (t.says ++ (Request rq ∷ [])) ≡ rq ∷ [] = requests-++ t.says (Request rq ∷ []) ∙ ap (λ (z : List asked.Request). z ++ (rq ∷ [])) silent in
           assemble st u fin keeps-own
-          (events.asks-then k p x w b i i< a q c n (client.preferred j t.state.last) hand o said t.state.holder up refl moved)
+          (events.asks_then k p x w b i i< a q c n (client.preferred j t.state.last) hand o said t.state.holder up refl moved)
           (λ none. absurd (none-some c (sym none ∙ o)))
 
       turning : Good (client.asks t (queued m c₀.nonces))
       turning =
-          may-ask t Good t.state.settings t.state.own (queued m c₀.nonces) refl refl quietly
+          may_ask t Good t.state.settings t.state.own (queued m c₀.nonces) refl refl quietly
           (λ j c n ns s o e up. asking j c n ns o e up)
 
     -- ANY BYTES

@@ -12,18 +12,18 @@ use Rattle.system.specs.Watch.{Lead, Watch, anew, is_tick, leads_after, start_in
 use Rattle.system.specs.Report.{Play, after, beginning, broken, judged, lines, next, played, ticks_next}
 use Rattle.system.specs.Promise.{Kept, any, names_premise}
 use Rattle.system.specs.Clocks.{Both, ClocksAgree, Spared, within_ticks, reached, spares, ticks_last}
-use Rattle.system.proofs.Watching.{Unbroken, Wider, noted-wider, unbroken, wider-self}
+use Rattle.system.proofs.Watching.{Unbroken, Wider, noted_wider, unbroken, wider_self}
 use Rattle.system.proofs.Following.{Follows, Judged, Near, server-clock}
 use Rattle.system.proofs.ClientEvents.{at_other}
-use Rattle.system.proofs.Running.{one-event}
-use Rattle.system.proofs.Promise.{any-apart, begins, settings-of, settings-so, settings-stay, unjudged, whole-at}
+use Rattle.system.proofs.Running.{one_event}
+use Rattle.system.proofs.Promise.{any-apart, begins, settings-of, settings_so, settings_stay, unjudged, whole-at}
 
 -- SOME EVENTS keep the lead of a client that they spare
 Grows : Option Lead → Option Lead → Type 0
 Grows o o' = (d : Lead) → o ≡ Some d → (d' : Lead) × (o' ≡ Some d') × Wider d d'
 
-wider-on : (d e f : Lead) → Wider d e → Wider e f → Wider d f
-wider-on d e f a b = record { least = omega (arith, a.least, b.least); most = omega (arith, a.most, b.most) }
+wider_on : (d e f : Lead) → Wider d e → Wider e f → Wider d f
+wider_on d e f a b = record { least = omega (arith, a.least, b.least); most = omega (arith, a.most, b.most) }
 
 kept-anew : (i : ℕ) (e : Event) (x : Parties) (ls : ℕ → Option Lead) → spares i e x → anew e (happens e x).parties ls i ≡ ls i
 kept-anew i (ToServer bs) x ls s = refl
@@ -40,16 +40,16 @@ kept-anew i (Damages d clock) x ls s = refl
 
 grows : (i : ℕ) (e : Event) (x : Parties) (j : Bool) (ls : ℕ → Option Lead) → spares i e x → Grows (ls i) (leads_after j e (happens e x).parties ls i)
 unfolding Grows
-grows i e x true ls s d h = noted-wider (happens e x).parties (anew e (happens e x).parties ls) i d (kept-anew i e x ls s ∙ h)
-grows i e x false ls s d h = (d, kept-anew i e x ls s ∙ h, wider-self d)
+grows i e x true ls s d h = noted_wider (happens e x).parties (anew e (happens e x).parties ls) i d (kept-anew i e x ls s ∙ h)
+grows i e x false ls s d h = (d, kept-anew i e x ls s ∙ h, wider_self d)
 
-grow-all : (i : ℕ) (xs ys : List Event) (h : Play) → Spared i xs h.parties → Grows (h.watch.leads i) ((reached xs ys h).watch.leads i)
+grow_all : (i : ℕ) (xs ys : List Event) (h : Play) → Spared i xs h.parties → Grows (h.watch.leads i) ((reached xs ys h).watch.leads i)
 unfolding reached Spared Grows
-grow-all i [] ys h s d e = (d, e, wider-self d)
-grow-all i (x ∷ xs) ys h s d e =
+grow_all i [] ys h s d e = (d, e, wider_self d)
+grow_all i (x ∷ xs) ys h s d e =
     let q : (d' : Lead) × ((next (judged x (xs ++ ys)) x h).watch.leads i ≡ Some d') × Wider d d' = grows i x h.parties (judged x (xs ++ ys)) h.watch.leads s.0 d e in
-    let r : (d'' : Lead) × ((reached xs ys (next (judged x (xs ++ ys)) x h)).watch.leads i ≡ Some d'') × Wider q.0 d'' = grow-all i xs ys (next (judged x (xs ++ ys)) x h) s.1 q.0 q.1 in
-    (r.0, r.1, wider-on d q.0 r.0 q.2 r.2)
+    let r : (d'' : Lead) × ((reached xs ys (next (judged x (xs ++ ys)) x h)).watch.leads i ≡ Some d'') × Wider q.0 d'' = grow_all i xs ys (next (judged x (xs ++ ys)) x h) s.1 q.0 q.1 in
+    (r.0, r.1, wider_on d q.0 r.0 q.2 r.2)
 
 -- ONE AFTER THE OTHER
 reached-on : (xs ys zs : List Event) (h : Play) → reached (xs ++ ys) zs h ≡ reached ys zs (reached xs (ys ++ zs) h)
@@ -61,12 +61,12 @@ reached-on (e ∷ xs) ys zs h =
 
 grown : (i : ℕ) (xs ys : List Event) (h : Play) → Spared i xs h.parties → (d : Lead) → h.watch.leads i ≡ Some d → (d' : Lead) × ((reached xs ys h).watch.leads i ≡ Some d') × Wider d d'
 unfolding Grows
-grown i xs ys h s d e = grow-all i xs ys h s d e
+grown i xs ys h s d e = grow_all i xs ys h s d e
 
 -- settings that are known by then stay so
 after-reached : (xs ys : List Event) (h : Play) (m : model.Settings) → (reached xs ys h).watch.settings ≡ Some m → (after (xs ++ ys) h).watch.settings ≡ Some m
 unfolding reached after
-after-reached [] ys h m e = settings-stay ys h m e
+after-reached [] ys h m e = settings_stay ys h m e
 after-reached (x ∷ xs) ys h m e = after-reached xs ys (next (judged x (xs ++ ys)) x h) m e
 
 -- AT EVERY MOMENT of a run that breaks no premise
@@ -90,7 +90,7 @@ module _ (k : model.Settings) where
       let whole : broken g e o h ≡ None = whole-at g e h n q.0 in
       let u : Unbroken e x o h.watch (watched g e o h.watch) = unbroken e x o h.watch (watched g e o h.watch) whole in
       let f' : Follows k g o.parties (watched g e o h.watch) =
-      one-event k x h.watch j g e i.0 f ticks (λ b. (unjudged e es b).0) u (λ m s. fin m (settings-stay es (next g e h) m s)) in
+      one_event k x h.watch j g e i.0 f ticks (λ b. (unjudged e es b).0) u (λ m s. fin m (settings_stay es (next g e h) m s)) in
       let n' : (next g e h).named ≡ false = ap (λ (b : Bool). b || is_some (broken g e o h)) n ∙ ap is_some whole in
       reaches xs ys (next g e h) g i.1 f' (λ b. (unjudged e es b).1) n' q.1 fin (is_tick e) (λ b. (unjudged e es b).0)
 
@@ -106,7 +106,7 @@ module _ (before between rest : List Event) (i : AllWithin (before ++ (between +
   judged-at xs ys e out =
       let r : (g : Bool) × Follows k g (reached xs ys beginning).parties (reached xs ys beginning).watch × (g ≡ false → (ticks_last false xs ≡ true) × (ticks_next ys ≡ true)) =
       reaches k xs ys beginning true (subst AllWithin (sym e) i) (begins k) (λ b. absurd (both_ways true b refl)) refl (subst (λ (l : List Event). any names_premise (played l beginning) ≡ false) (sym e) quiet)
-      (λ m s. settings-so (after all beginning).watch.settings m (ap (λ (l : List Event). (after l beginning).watch.settings) (sym e) ∙ s)) false (λ b. absurd (both_ways true b refl)) in
+      (λ m s. settings_so (after all beginning).watch.settings m (ap (λ (l : List Event). (after l beginning).watch.settings) (sym e) ∙ s)) false (λ b. absurd (both_ways true b refl)) in
       by_flag r.0 r.1 r.2
     where
       by_flag : (g : Bool) → Follows k g (reached xs ys beginning).parties (reached xs ys beginning).watch → (g ≡ false → (ticks_last false xs ≡ true) × (ticks_next ys ≡ true)) →
@@ -145,12 +145,12 @@ module _ (before between rest : List Event) (i : AllWithin (before ++ (between +
         let wide : Wider n.lead n'.lead = subst (λ (d : Lead). Wider n.lead d) z g.2 in
         let slim : n'.lead.most ≤ n'.lead.least + k.skew = J'.narrow p p< (ap is_some e) n'.lead n'.noted in
         let same : m ≡ k =
-        settings-so (after all beginning).watch.settings m
+        settings_so (after all beginning).watch.settings m
         (ap (λ (l : List Event). (after l beginning).watch.settings) (sym (append_assoc before between rest)) ∙ after-reached (before ++ between) rest beginning m e) in
         let sk : m.skew ≡ k.skew = ap (λ (y : model.Settings). y.skew) same in (
           omega (arith, n.at.0, n.at.1, n'.at.0, n'.at.1, wide.least, wide.most, slim, sk),
           omega (arith, n.at.0, n.at.1, n'.at.0, n'.at.1, wide.least, wide.most, slim, sk),
         )
 
-pub clocks-agree : ClocksAgree
-clocks-agree before between rest i quiet out out' p p< b b' s m e = within-skew before between rest i quiet out out' p p< b b' s m e
+pub clocks_agree : ClocksAgree
+clocks_agree before between rest i quiet out out' p p< b b' s m e = within-skew before between rest i quiet out out' p p< b b' s m e

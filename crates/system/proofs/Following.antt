@@ -15,15 +15,15 @@ use Rattle.lease.specs.Run.{client_passes, over, server_passes}
 use Rattle.lease.proofs.Options.{none-some, some_same}
 use Rattle.lease.proofs.Claims.{In}
 use Rattle.lease.proofs.Sound.{Sound, same}
-use Rattle.lease.proofs.Passing.{time-passes}
-use Rattle.lease.proofs.Keeping.{Tidy, tidy-step}
+use Rattle.lease.proofs.Passing.{time_passes}
+use Rattle.lease.proofs.Keeping.{Tidy, tidy_step}
 use Rattle.lease.proofs.History.{passes-clock}
 use Rattle.server.specs.Server as server
 use Rattle.server.specs.Refines.{Stands, model_of}
 use Rattle.client.specs.Nonces.{Distinct}
 use Rattle.system.specs.Parties.{Parties, blank, places}
 use Rattle.system.specs.Watch.{Lead, Watch, requested, granted, both_up, noted}
-use Rattle.system.proofs.Watching.{Wider, At, wider-at, noted-wider, noted-now}
+use Rattle.system.proofs.Watching.{Wider, At, wider_at, noted_wider, noted_now}
 
 -- a moment that was noted for a client since its start, once settings are known
 pub record Moment (x : Parties) (w : Watch) (c t h : ℕ) : Type 0 where
@@ -140,8 +140,8 @@ unused-none : (now : ℕ) (o : Option Use) → ((u : Use) → o ≡ Some u → n
 unused-none now None h = refl
 unused-none now (Some u) h = cond-true (leb now u.until) (Some u) None (le-leb now u.until (h u refl))
 
-pub pass-none : (x : core.Client) → ((u : Use) → x.holding.uses ≡ Some u → x.clock ≤ u.until) → client_passes 0 x ≡ x
-pass-none x h =
+pub pass_none : (x : core.Client) → ((u : Use) → x.holding.uses ≡ Some u → x.clock ≤ u.until) → client_passes 0 x ≡ x
+pass_none x h =
     cond_both x.up _ x (λ (z : core.Client). z ≡ x)
     (λ e.
     let z : x.clock + 0 ≡ x.clock = omega arith in
@@ -168,11 +168,11 @@ module _ (k : model.Settings) (p : ℕ) (x : Parties) (w : Watch) (b : Base k p 
   module _ (slim : (i : ℕ) → i < places → is_some w.settings ≡ true → (d : Lead) → noted x w.leads i ≡ Some d → d.most ≤ d.least + k.skew) where
     moments : (c t h : ℕ) → Moment x w c t h → Moment x v c t h
     moments c t h m =
-        let q : (d : Lead) × (noted x w.leads m.place ≡ Some d) × Wider m.lead d = noted-wider x w.leads m.place m.lead m.noted in
-        record { known = m.known; place = m.place; within = m.within; own = m.own; lead = q.0; noted = q.1; at = wider-at m.lead q.0 t h q.2 m.at }
+        let q : (d : Lead) × (noted x w.leads m.place ≡ Some d) × Wider m.lead d = noted_wider x w.leads m.place m.lead m.noted in
+        record { known = m.known; place = m.place; within = m.within; own = m.own; lead = q.0; noted = q.1; at = wider_at m.lead q.0 t h q.2 m.at }
 
-    up-both : (i c : ℕ) → (x.clients i).state.own ≡ Some c → (x.clients i).state.holder.up ≡ true → x.server.server.up ≡ true → both_up x i ≡ true
-    up-both i c own up sup = and_from _ _ sup (and_from _ _ up (ap is_some own))
+    up_both : (i c : ℕ) → (x.clients i).state.own ≡ Some c → (x.clients i).state.holder.up ≡ true → x.server.server.up ≡ true → both_up x i ≡ true
+    up_both i c own up sup = and_from _ _ sup (and_from _ _ up (ap is_some own))
 
     -- a moment that was noted isn't too long ago
     fine : (c t h : ℕ) → Moment x w c t h → (b.world.clients c).clock ≤ t + k.term → (b.world.clients c).up ≡ true → b.world.server.up ≡ true → b.world.server.clock + p ≤ h + life k
@@ -180,8 +180,8 @@ module _ (k : model.Settings) (p : ℕ) (x : Parties) (w : Watch) (b : Base k p 
         let s : (x.server.server.clock ≡ b.world.server.clock + p) × (x.server.server.up ≡ b.world.server.up) = server-clock k p x w b in
         let e : b.world.clients c ≡ (x.clients m.place).state.holder = b.clients m.place c m.within m.own in
         let n : (d : Lead) × (noted x w.leads m.place ≡ Some d) × At d (x.clients m.place).state.holder.clock x.server.server.clock =
-        noted-now x w.leads m.place b.clock (up-both m.place c m.own (ap (λ (z : core.Client). z.up) (sym e) ∙ up) (s.1 ∙ sup)) in
-        let q : (d : Lead) × (noted x w.leads m.place ≡ Some d) × Wider m.lead d = noted-wider x w.leads m.place m.lead m.noted in
+        noted_now x w.leads m.place b.clock (up_both m.place c m.own (ap (λ (z : core.Client). z.up) (sym e) ∙ up) (s.1 ∙ sup)) in
+        let q : (d : Lead) × (noted x w.leads m.place ≡ Some d) × Wider m.lead d = noted_wider x w.leads m.place m.lead m.noted in
         let d : Lead = n.0 in
         let z : q.0 ≡ d = some_same _ _ (sym q.1 ∙ n.1) in
         let wide : Wider m.lead d = subst (λ (y : Lead). Wider m.lead y) z q.2 in
@@ -196,8 +196,8 @@ module _ (k : model.Settings) (p : ℕ) (x : Parties) (w : Watch) (b : Base k p 
     and_no true c e = e
     and_no false c e = refl
 
-    down-both : (i : ℕ) → (x.clients i).state.holder.up ≡ false → both_up x i ≡ false
-    down-both i down = and_no x.server.server.up _ (ap (λ (z : Bool). z && is_some (x.clients i).state.own) down)
+    down_both : (i : ℕ) → (x.clients i).state.holder.up ≡ false → both_up x i ≡ false
+    down_both i down = and_no x.server.server.up _ (ap (λ (z : Bool). z && is_some (x.clients i).state.own) down)
 
     -- the parts that don't look at time
     rest : (world' : World) → Sound k (Moment x v) world' → Tidy k world'.server → model_of k x.server ≡ world'.server →
@@ -222,10 +222,10 @@ module _ (k : model.Settings) (p : ℕ) (x : Parties) (w : Watch) (b : Base k p 
             grants = λ g e. subst (λ (z : List Message). In (Grants g) z) (sym ms) (b.grants g e);
             queues = subst (λ (z : List ℕ). Queues x v z) (sym dr)
                 (record { distinct = b.queues.distinct; apart = b.queues.apart; unused = b.queues.unused; lent = b.queues.lent; spent = b.queues.spent });
-            quiet = λ i l down. cond-false (both_up x i) _ (w.leads i) (down-both i down) ∙ b.quiet i l down;
+            quiet = λ i l down. cond-false (both_up x i) _ (w.leads i) (down_both i down) ∙ b.quiet i l down;
           };
           near = λ i c l own up sup.
-              let n : (d : Lead) × (noted x w.leads i ≡ Some d) × At d (x.clients i).state.holder.clock x.server.server.clock = noted-now x w.leads i b.clock (up-both i c own up sup) in
+              let n : (d : Lead) × (noted x w.leads i ≡ Some d) × At d (x.clients i).state.holder.clock x.server.server.clock = noted_now x w.leads i b.clock (up_both i c own up sup) in
               let s : x.server.server.clock ≡ world'.server.clock = ap (λ (z : core.Server). z.clock) sv in
               record { lead = n.0; noted = n.1; at = (omega (arith, s, n.2.0), omega (arith, s, n.2.1)) };
           narrow = slim;
@@ -238,10 +238,10 @@ module _ (k : model.Settings) (p : ℕ) (x : Parties) (w : Watch) (b : Base k p 
         let s : model_of k x.server ≡ server_passes p u.server =
         b.server ∙ ap (λ (z : ℕ). ticked z u.server) e ∙ ticked-passes n u.server ∙ ap (λ (z : ℕ). server_passes z u.server) (sym e) in
         rest (run.passes p f u)
-        (time-passes k (Moment x w) (Moment x v) u b.sound f moments p
+        (time_passes k (Moment x w) (Moment x v) u b.sound f moments p
         (λ sup c up t h m b₁ b₂. fine c t h m (omega (arith, b₂)) up sup))
-        (tidy-step k (run.Pass p f) u tt b.tidy) s
-        (λ c. pass-none (u.clients c) (λ q g. ((b.sound.holds c).uses q g).now)) refl refl
+        (tidy_step k (run.Pass p f) u tt b.tidy) s
+        (λ c. pass_none (u.clients c) (λ q g. ((b.sound.holds c).uses q g).now)) refl refl
 
     unpassed : p ≡ 0 → Judged k x v
     unfolding ticked

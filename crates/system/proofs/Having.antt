@@ -42,7 +42,7 @@ use Rattle.system.specs.Parties.{Parties, places, sends}
 use Rattle.system.specs.Promise.{Asked, CanHave, Has, Keeps, answered_to, parties}
 use Rattle.system.specs.Report.{after, beginning}
 use Rattle.system.specs.Watch.{Watch}
-use Rattle.system.proofs.Turning.{may-ask}
+use Rattle.system.proofs.Turning.{may_ask}
 use Rattle.system.proofs.Following.{Base, Home, Judged, Moment, lately, ticked}
 use Rattle.system.proofs.Promise.{Ends, ends, line_of}
 use Rattle.system.proofs.ClientEvents.{at_here}
@@ -90,8 +90,8 @@ module _ (x : Parties) (k : model.Settings) (i : ℕ) (r : asked.Request) (a : A
   abbrev held : core.Client
   held = run.with_holding c₀.state.holder (taken k.term q c₀.state.holder.clock)
 
-  hears-it : hearing k.term r.client g c₀.state.holder ≡ Ok held
-  hears-it =
+  hears_it : hearing k.term r.client g c₀.state.holder ≡ Ok held
+  hears_it =
       cond-true c₀.state.holder.up _ _ a.up
       ∙ ap (λ (z : Result Holding lease.Fault). run.held_by c₀.state.holder z) (
       cond-true (eqb r.client r.client) _ _ (eq-eqb _ _ refl)
@@ -99,12 +99,12 @@ module _ (x : Parties) (k : model.Settings) (i : ℕ) (r : asked.Request) (a : A
       ∙ cond-true (eqb r.nonce r.nonce) _ _ (eq-eqb _ _ refl)
       ∙ cond-true (leb c₀.state.holder.clock (c₀.state.holder.clock + k.term)) _ _ (le-leb _ _ (omega arith)))
 
-  takes-it : does (Grant g) c₀.state ≡ Ok (takes k.term q c₀.state held)
-  takes-it =
+  takes_it : does (Grant g) c₀.state ≡ Ok (takes k.term q c₀.state held)
+  takes_it =
       cond-true c₀.state.holder.up _ _ a.up
       ∙ ap (λ (o : Option ℕ). Rattle.client.specs.State.granted o c₀.state.settings g c₀.state) a.own
       ∙ ap (λ (o : Option model.Settings). Rattle.client.specs.State.granted (Some r.client) o g c₀.state) a.client_knows
-      ∙ ap (λ (z : Result core.Client lease.Fault). held_by k.term q c₀.state z) hears-it
+      ∙ ap (λ (z : Result core.Client lease.Fault). held_by k.term q c₀.state z) hears_it
 
   abbrev turn : Turn
   turn = takes k.term q c₀.state held
@@ -113,23 +113,23 @@ module _ (x : Parties) (k : model.Settings) (i : ℕ) (r : asked.Request) (a : A
   unfolding client.hears
   uses =
       ap (λ (z : Answer). in_use (client.answers c₀ z).client.state) understands
-      ∙ ap (λ (z : Result Turn lease.Fault). in_use (client.goes_on c₀ (client.queued (Grant g) c₀.nonces) z).client.state) takes-it
-      ∙ may-ask turn (λ t. in_use t.client.state ≡ Some (record { address = q; until = c₀.state.holder.clock + k.term })) turn.state.settings turn.state.own (client.queued (Grant g) c₀.nonces) refl refl refl
+      ∙ ap (λ (z : Result Turn lease.Fault). in_use (client.goes_on c₀ (client.queued (Grant g) c₀.nonces) z).client.state) takes_it
+      ∙ may_ask turn (λ t. in_use t.client.state ≡ Some (record { address = q; until = c₀.state.holder.clock + k.term })) turn.state.settings turn.state.own (client.queued (Grant g) c₀.nonces) refl refl refl
       (λ j c n ms e f h up. refl)
 
-  pub has-it : Has k x i r q
-  has-it =
+  pub has_it_lem : Has k x i r q
+  has_it_lem =
       record {
         within = q<;
         grants = said;
         uses = ap (λ (z : Client). in_use z.state) (at_here i (client.hears (encoded (Grant g)) c₀).client x.clients) ∙ uses;
       }
 
-pub can-have : CanHave
-can-have x k i r a few b b< f =
+pub can_have : CanHave
+can_have x k i r a few b b< f =
     let ch : Chosen k.addresses x.server.server.clock x.server.server.table r (choose k.addresses x.server.server.clock x.server.server.table r) = choosing k.addresses _ _ r in
     let q : (q : ℕ) × (choose k.addresses x.server.server.clock x.server.server.table r ≡ Some q) = ch.exists b b< f in
-    (q.0, has-it x k i r a few q.0 q.1 (ch.below q.0 q.1))
+    (q.0, has_it_lem x k i r a few q.0 q.1 (ch.below q.0 q.1))
 
 -- what a table keeps
 kept-some : (now : ℕ) (o : Option Lease) (l : Lease) → kept_of now o ≡ Some l → o ≡ Some l
@@ -185,17 +185,17 @@ module _ (k : model.Settings) (x : Parties) (w : Watch) (j : Judged k x w) (i : 
       cond_both (ltb d k.addresses) (leases 4096 x.server.device d) None (λ o. o ≡ Some m → (d < k.addresses) × (leases 4096 x.server.device d ≡ Some m))
       (λ f g. (ltb-true d k.addresses f, g)) (λ f g. absurd (none-some m g))
 
-  table-so : (d : ℕ) → b.world.server.table d ≡ pooled k.addresses x.server.device d
-  table-so d = ap (λ (z : core.Server). z.table d) (sym same)
+  table_so : (d : ℕ) → b.world.server.table d ≡ pooled k.addresses x.server.device d
+  table_so d = ap (λ (z : core.Server). z.table d) (sym same)
 
   there : pooled k.addresses x.server.device u.address ≡ Some l
-  there = sym (table-so u.address) ∙ sym (b.sound.kept (ap (λ (z : core.Server). z.silent) (sym same) ∙ lends.1) u.address) ∙ mine.claim.line.there
+  there = sym (table_so u.address) ∙ sym (b.sound.kept (ap (λ (z : core.Server). z.silent) (sym same) ∙ lends.1) u.address) ∙ mine.claim.line.there
 
   agrees : (d : ℕ) → d < k.addresses → kept_of v.clock (leases 4096 x.server.device d) ≡ kept_of v.clock (v.table d)
   agrees = (st.ready lends.0).agrees
 
-  pub kept-it : Has k x i r u.address
-  kept-it =
+  pub kept_it : Has k x i r u.address
+  kept_it =
       let p : (u.address < k.addresses) × (leases 4096 x.server.device u.address ≡ Some l) = on-device u.address l there in
       let m : v.table u.address ≡ Some l = same_live v.clock u.address (leases 4096 x.server.device) v.table l (agrees u.address p.0) p.1 live in
       let ch : Chosen k.addresses v.clock v.table r (choose k.addresses v.clock v.table r) = choosing k.addresses v.clock v.table r in
@@ -209,10 +209,10 @@ module _ (k : model.Settings) (x : Parties) (w : Watch) (j : Judged k x w) (i : 
       let s : q.0 ≡ u.address = one c q.0 u.address
       (owned-from v.clock c _ (record { lease = n.lease; there = cond-true (ltb q.0 k.addresses) _ None (lt-ltb _ _ q<) ∙ d; client = n.client; lives = n.lives }))
       (owned-from v.clock c _ (record { lease = l; there = there; client = mine.claim.line.client; lives = live })) in
-      subst (λ (z : ℕ). Has k x i r z) s (has-it x k i r a (omega (arith, st.few)) q.0 q.1 q<)
+      subst (λ (z : ℕ). Has k x i r z) s (has_it_lem x k i r a (omega (arith, st.few)) q.0 q.1 q<)
 
 pub keeps : Keeps
 keeps es within quiet k i r u i< a e =
     let z : (k : model.Settings) × Ends k es beginning = ends es within quiet in
     let same : k ≡ z.0 = (z.1.end.base.told k a.server_knows).0 in
-    kept-it k (parties es) (after es beginning).watch (subst (λ (m : model.Settings). Judged m (parties es) (after es beginning).watch) (sym same) z.1.end) i r i< a u e
+    kept_it k (parties es) (after es beginning).watch (subst (λ (m : model.Settings). Judged m (parties es) (after es beginning).watch) (sym same) z.1.end) i r i< a u e

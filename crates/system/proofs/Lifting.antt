@@ -13,8 +13,8 @@ use Rattle.lease.specs.Run.{answer, crashes, forgets, restarts, serves, replies,
 use Rattle.lease.proofs.Options.{some_same}
 use Rattle.lease.proofs.Claims.{In}
 use Rattle.lease.proofs.Sound.{Moments, Sound, Agrees}
-use Rattle.lease.proofs.ServerSteps.{server-crashes, server-forgets, server-restarts, server-hears, server-hears-and-crashes}
-use Rattle.lease.proofs.Keeping.{Tidy, serves-tidy, hears-tidy, tidy-step}
+use Rattle.lease.proofs.ServerSteps.{server-crashes, server-forgets, server-restarts, server-hears, server-hears_and_crashes}
+use Rattle.lease.proofs.Keeping.{Tidy, serves_tidy, hears_tidy, tidy_step}
 use Rattle.lease.proofs.Answers.{meant}
 use Rattle.lease.proofs.History.{restarts-clock}
 use Rattle.server.specs.Refines.{AllFrom, Asking, Cause, Crashes, Event, Forgets, Hears, HearsAndCrashes, Passes, Restarts, Rising, Time, occur, sent}
@@ -29,20 +29,20 @@ serves-keeps k v (Refused f) = (refl, refl)
 pub forgets-keeps : (gone : ℕ → Bool) (v : Server) → ((forgets gone v).clock ≡ v.clock) × ((forgets gone v).up ≡ v.up)
 forgets-keeps gone v = cond_both v.up _ v (λ (z : Server). (z.clock ≡ v.clock) × (z.up ≡ v.up)) (λ e. (refl, refl)) (λ e. (refl, refl))
 
-still-in : (m : Message) (a : lent.Answer) (ms : List Message) → In m ms → In m (replies a ms)
-still-in m Unheard ms i = i
-still-in m (Granted g) ms i = inr i
-still-in m (Refused f) ms i = i
+still_in : (m : Message) (a : lent.Answer) (ms : List Message) → In m ms → In m (replies a ms)
+still_in m Unheard ms i = i
+still_in m (Granted g) ms i = inr i
+still_in m (Refused f) ms i = i
 
-asking-rising : (r : asked.Request) (clock : ℕ) (o : Cause) → o ≡ Asking r → o ≡ Rising clock → ⊥
-asking-rising r clock o e f = let z : ◌≡◌ {A = ℕ} 0 1 = cc in omega arith
+asking_rising : (r : asked.Request) (clock : ℕ) (o : Cause) → o ≡ Asking r → o ≡ Rising clock → ⊥
+asking_rising r clock o e f = let z : ◌≡◌ {A = ℕ} 0 1 = cc in omega arith
 
-crashed-tidy : (k : model.Settings) (v : Server) → Tidy k v → Tidy k (crashes v)
-crashed-tidy k v t = record { pooled = t.pooled; one = t.one }
+crashed_tidy : (k : model.Settings) (v : Server) → Tidy k v → Tidy k (crashes v)
+crashed_tidy k v t = record { pooled = t.pooled; one = t.one }
 
-lost-tidy : (k : model.Settings) (v : Server) (r : asked.Request) (wrote : Bool) → Tidy k v → Tidy k (crashes (cond wrote (serves k (answer k v r) v) v))
-lost-tidy k v r true t = crashed-tidy k _ (serves-tidy k v r (answer k v r) (meant k v r) t)
-lost-tidy k v r false t = crashed-tidy k v t
+lost_tidy : (k : model.Settings) (v : Server) (r : asked.Request) (wrote : Bool) → Tidy k v → Tidy k (crashes (cond wrote (serves k (answer k v r) v) v))
+lost_tidy k v r true t = crashed_tidy k _ (serves_tidy k v r (answer k v r) (meant k v r) t)
+lost_tidy k v r false t = crashed_tidy k v t
 
 module _ (k : model.Settings) (S : Moments) (o : Cause) where
   -- since every moment that `S` speaks of, the server's clock came to at most `n`, as long as the client may use what it has
@@ -72,9 +72,9 @@ module _ (k : model.Settings) (S : Moments) (o : Cause) where
   kept c t h m = m
 
   -- the same clock and power, and no message less
-  leans-on : (w : World) (v : Server) (ms : List Message) → Leans w → (v.clock ≡ w.server.clock) × (v.up ≡ w.server.up) → ((m : Message) → In m w.messages → In m ms) →
+  leans_on : (w : World) (v : Server) (ms : List Message) → Leans w → (v.clock ≡ w.server.clock) × (v.up ≡ w.server.up) → ((m : Message) → In m w.messages → In m ms) →
       Leans (record { server = v; clients = w.clients; messages = ms; drawn = w.drawn })
-  leans-on w v ms l e more =
+  leans_on w v ms l e more =
       record {
         requested = λ r q. more _ (l.requested r q);
         onward = λ clock q. (omega (arith, e.0, (l.onward clock q).0), (l.onward clock q).1);
@@ -83,8 +83,8 @@ module _ (k : model.Settings) (S : Moments) (o : Cause) where
       }
 
   -- a server that is down now
-  leans-down : (w : World) (v : Server) → Leans w → v.clock ≡ w.server.clock → v.up ≡ false → Leans (with_server v w)
-  leans-down w v l e down =
+  leans_down : (w : World) (v : Server) → Leans w → v.clock ≡ w.server.clock → v.up ≡ false → Leans (with_server v w)
+  leans_down w v l e down =
       record {
         requested = l.requested;
         onward = λ clock q. (omega (arith, e, (l.onward clock q).0), (l.onward clock q).1);
@@ -103,8 +103,8 @@ module _ (k : model.Settings) (S : Moments) (o : Cause) where
         let so₁ : Sound k S (server_hears k (Some (Requests r)) w) =
         server-hears k S S w so (agrees w l) kept (λ c up cup. l.noted r h.0 up c cup) (Some (Requests r)) (λ m e. subst (λ (z : Message). In z w.messages) (some_same _ _ e) i) in
         let q : Lifts (server_hears k (Some (Requests r)) w) evs =
-        lift evs (server_hears k (Some (Requests r)) w) so₁ (hears-tidy k w (Some (Requests r)) ti) h.1
-        (leans-on w (serves k a v) (replies a w.messages) l (serves-keeps k v a) (λ m j. still-in m a w.messages j)) in
+        lift evs (server_hears k (Some (Requests r)) w) so₁ (hears_tidy k w (Some (Requests r)) ti) h.1
+        (leans_on w (serves k a v) (replies a w.messages) l (serves-keeps k v a) (λ m j. still_in m a w.messages j)) in
         record {
           world = q.world;
           sound = q.sound;
@@ -119,20 +119,20 @@ module _ (k : model.Settings) (S : Moments) (o : Cause) where
         let i : In (Requests r) w.messages = l.requested r h.0 in
         let v₁ : Server = crashes (cond wrote (serves k (answer k v r) v) v) in
         let so₁ : Sound k S (with_server v₁ w) =
-        server-hears-and-crashes k S S w so (agrees w l) kept (λ c up cup. l.noted r h.0 up c cup) (Some (Requests r)) wrote
+        server-hears_and_crashes k S S w so (agrees w l) kept (λ c up cup. l.noted r h.0 up c cup) (Some (Requests r)) wrote
         (λ m e. subst (λ (z : Message). In z w.messages) (some_same _ _ e) i) in
         let same : v₁.clock ≡ v.clock = cond_both wrote (serves k (answer k v r) v) v (λ (z : Server). z.clock ≡ v.clock) (λ e. (serves-keeps k v (answer k v r)).0) (λ e. refl) in
-        let q : Lifts (with_server v₁ w) evs = lift evs (with_server v₁ w) so₁ (lost-tidy k v r wrote ti) h.1 (leans-down w v₁ l same refl) in
+        let q : Lifts (with_server v₁ w) evs = lift evs (with_server v₁ w) so₁ (lost_tidy k v r wrote ti) h.1 (leans_down w v₁ l same refl) in
         record { world = q.world; sound = q.sound; tidy = q.tidy; server = q.server; clients = q.clients; messages = q.messages; drawn = q.drawn }
     lift (Crashes ∷ evs) w so ti h l =
         let v₁ : Server = crashes w.server in
-        let q : Lifts (with_server v₁ w) evs = lift evs (with_server v₁ w) (server-crashes k S S w so kept) (crashed-tidy k w.server ti) h.1 (leans-down w v₁ l refl refl) in
+        let q : Lifts (with_server v₁ w) evs = lift evs (with_server v₁ w) (server-crashes k S S w so kept) (crashed_tidy k w.server ti) h.1 (leans_down w v₁ l refl refl) in
         record { world = q.world; sound = q.sound; tidy = q.tidy; server = q.server; clients = q.clients; messages = q.messages; drawn = q.drawn }
     lift (Forgets gone ∷ evs) w so ti h l =
         let v₁ : Server = forgets gone w.server in
         let so₁ : Sound k S (with_server v₁ w) = server-forgets k S S w so (agrees w l) kept gone in
         let q : Lifts (with_server v₁ w) evs =
-        lift evs (with_server v₁ w) so₁ (tidy-step k (run.Forgets gone) w tt ti) h.1 (leans-on w v₁ w.messages l (forgets-keeps gone w.server) (λ m j. j)) in
+        lift evs (with_server v₁ w) so₁ (tidy_step k (run.Forgets gone) w tt ti) h.1 (leans_on w v₁ w.messages l (forgets-keeps gone w.server) (λ m j. j)) in
         record { world = q.world; sound = q.sound; tidy = q.tidy; server = q.server; clients = q.clients; messages = q.messages; drawn = q.drawn }
     lift (Restarts clock lost ∷ evs) w so ti h l =
         let v₁ : Server = restarts k clock lost w.server in
@@ -140,14 +140,14 @@ module _ (k : model.Settings) (S : Moments) (o : Cause) where
         let on : (w.server.clock ≤ clock) × Fine w clock = l.onward clock h.0 in
         let so₁ : Sound k S (with_server v₁ w) = server-restarts k S S w so clock lost kept (λ c back up. absurd (omega (arith, on.0, back))) in
         let q : Lifts (with_server v₁ w) evs =
-        lift evs (with_server v₁ w) so₁ (tidy-step k (run.ServerRestarts clock lost) w on.0 ti) h.1
+        lift evs (with_server v₁ w) so₁ (tidy_step k (run.ServerRestarts clock lost) w on.0 ti) h.1
         (record {
           requested = l.requested;
-          onward = λ n e. let z : n ≡ clock = same-rising n clock (sym e ∙ h.0) in (omega (arith, z, r.0), (l.onward n e).1);
+          onward = λ n e. let z : n ≡ clock = same_rising n clock (sym e ∙ h.0) in (omega (arith, z, r.0), (l.onward n e).1);
           fine = λ up. subst (λ (n : ℕ). Fine w n) (sym r.0) on.1;
-          noted = λ q e. absurd (asking-rising q clock o e h.0);
+          noted = λ q e. absurd (asking_rising q clock o e h.0);
         }) in
         record { world = q.world; sound = q.sound; tidy = q.tidy; server = q.server; clients = q.clients; messages = q.messages; drawn = q.drawn }
       where
-        same-rising : (n m : ℕ) → Rising n ≡ Rising m → n ≡ m
-        same-rising n m e = cc
+        same_rising : (n m : ℕ) → Rising n ≡ Rising m → n ≡ m
+        same_rising n m e = cc

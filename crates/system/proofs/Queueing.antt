@@ -22,29 +22,29 @@ lends-is (InUse a u) = refl
 lends-is NoAddress = refl
 lends-is (Fault f) = refl
 
-or-either : (a b : Bool) → (a || b) ≡ true → (a ≡ true) ⊎ (b ≡ true)
-or-either true b e = inl refl
-or-either false b e = inr e
+or_either : (a b : Bool) → (a || b) ≡ true → (a ≡ true) ⊎ (b ≡ true)
+or_either true b e = inl refl
+or_either false b e = inr e
 
-pub elem-either : (n : ℕ) (xs ys : List ℕ) → elem n (xs ++ ys) ≡ true → (elem n xs ≡ true) ⊎ (elem n ys ≡ true)
+pub elem_either : (n : ℕ) (xs ys : List ℕ) → elem n (xs ++ ys) ≡ true → (elem n xs ≡ true) ⊎ (elem n ys ≡ true)
 unfolding elem
-elem-either n [] ys e = inr e
-elem-either n (x ∷ xs) ys e =
-    elim (or-either (eqb n x) (elem n (xs ++ ys)) e) [
+elem_either n [] ys e = inr e
+elem_either n (x ∷ xs) ys e =
+    elim (or_either (eqb n x) (elem n (xs ++ ys)) e) [
       | inl a ↦ inl (or_left (eqb n x) (elem n xs) a)
-      | inr a ↦ elim (elem-either n xs ys a) [
+      | inr a ↦ elim (elem_either n xs ys a) [
         | inl c ↦ inl (or_right (eqb n x) (elem n xs) c)
         | inr c ↦ inr c
       ]
     ]
 
-pub elem-front : (n : ℕ) (xs ys : List ℕ) → elem n xs ≡ true → elem n (xs ++ ys) ≡ true
+pub elem_front : (n : ℕ) (xs ys : List ℕ) → elem n xs ≡ true → elem n (xs ++ ys) ≡ true
 unfolding elem
-elem-front n [] ys e = absurd (both_ways false refl e)
-elem-front n (x ∷ xs) ys e =
-    elim (or-either (eqb n x) (elem n xs) e) [
+elem_front n [] ys e = absurd (both_ways false refl e)
+elem_front n (x ∷ xs) ys e =
+    elim (or_either (eqb n x) (elem n xs) e) [
       | inl a ↦ or_left (eqb n x) (elem n (xs ++ ys)) a
-      | inr a ↦ or_right (eqb n x) (elem n (xs ++ ys)) (elem-front n xs ys a)
+      | inr a ↦ or_right (eqb n x) (elem n (xs ++ ys)) (elem_front n xs ys a)
     ]
 
 pub elem_back : (n : ℕ) (xs ys : List ℕ) → elem n ys ≡ true → elem n (xs ++ ys) ≡ true
@@ -52,8 +52,8 @@ unfolding elem
 elem_back n [] ys e = e
 elem_back n (x ∷ xs) ys e = or_right (eqb n x) (elem n (xs ++ ys)) (elem_back n xs ys e)
 
-pub elem-not : (n : ℕ) (xs : List ℕ) → (elem n xs ≡ true → ⊥) → elem n xs ≡ false
-elem-not n xs h = elim (cases_Bool (elem n xs)) [ inl e ↦ absurd (h e) | inr e ↦ e ]
+pub elem_not : (n : ℕ) (xs : List ℕ) → (elem n xs ≡ true → ⊥) → elem n xs ≡ false
+elem_not n xs h = elim (cases_Bool (elem n xs)) [ inl e ↦ absurd (h e) | inr e ↦ e ]
 
 pub elem-here : (n : ℕ) (xs : List ℕ) → elem n (n ∷ xs) ≡ true
 unfolding elem
@@ -65,37 +65,37 @@ elem-later n m xs e = or_right (eqb n m) (elem n xs) e
 
 pub elem-one : (n m : ℕ) (xs : List ℕ) → elem n (m ∷ xs) ≡ true → (n ≡ m) ⊎ (elem n xs ≡ true)
 unfolding elem
-elem-one n m xs e = elim (or-either (eqb n m) (elem n xs) e) [ inl a ↦ inl (eqb-true n m a) | inr a ↦ inr a ]
+elem-one n m xs e = elim (or_either (eqb n m) (elem n xs) e) [ inl a ↦ inl (eqb-true n m a) | inr a ↦ inr a ]
 
 -- those that come behind are others
-pub distinct-join : (xs ys : List ℕ) → Distinct xs → Distinct ys → ((n : ℕ) → elem n xs ≡ true → elem n ys ≡ true → ⊥) → Distinct (xs ++ ys)
+pub distinct_join : (xs ys : List ℕ) → Distinct xs → Distinct ys → ((n : ℕ) → elem n xs ≡ true → elem n ys ≡ true → ⊥) → Distinct (xs ++ ys)
 unfolding Distinct
-distinct-join [] ys d e h = e
-distinct-join (x ∷ xs) ys d e h = (
-  elem-not x (xs ++ ys) (λ a. elim (elem-either x xs ys a) [
+distinct_join [] ys d e h = e
+distinct_join (x ∷ xs) ys d e h = (
+  elem_not x (xs ++ ys) (λ a. elim (elem_either x xs ys a) [
     | inl c ↦ both_ways _ d.0 c
     | inr c ↦ h x (elem-here x xs) c
   ]),
-  distinct-join xs ys d.1 e (λ n a c. h n (elem-later n x xs a) c),
+  distinct_join xs ys d.1 e (λ n a c. h n (elem-later n x xs a) c),
 )
 
 pub distinct_head : (n : ℕ) (ns : List ℕ) → Distinct (n ∷ ns) → (elem n ns ≡ false) × Distinct ns
 unfolding Distinct
 distinct_head n ns d = d
 
-pub lent-distinct : (m : Message) → Distinct (lends m)
+pub lent_distinct : (m : Message) → Distinct (lends m)
 unfolding Distinct elem
-lent-distinct (Request r) = tt
-lent-distinct (Grant g) = tt
-lent-distinct (Settings n t k) = tt
-lent-distinct Tick = tt
-lent-distinct Crash = tt
-lent-distinct (Restart clock) = tt
-lent-distinct (OwnNumber n) = tt
-lent-distinct (Nonce n) = (refl, tt)
-lent-distinct (InUse a u) = tt
-lent-distinct NoAddress = tt
-lent-distinct (Fault f) = tt
+lent_distinct (Request r) = tt
+lent_distinct (Grant g) = tt
+lent_distinct (Settings n t k) = tt
+lent_distinct Tick = tt
+lent_distinct Crash = tt
+lent_distinct (Restart clock) = tt
+lent_distinct (OwnNumber n) = tt
+lent_distinct (Nonce n) = (refl, tt)
+lent_distinct (InUse a u) = tt
+lent_distinct NoAddress = tt
+lent_distinct (Fault f) = tt
 
 -- none of these is among those
 pub none_in : (ms ns : List ℕ) → any_in ms ns ≡ false → (n : ℕ) → elem n ms ≡ true → elem n ns ≡ false

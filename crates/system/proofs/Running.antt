@@ -19,7 +19,7 @@ use Rattle.server.specs.Server.{answers, hears, is_lost, refuses, silently, unde
 use Rattle.journal.specs.Crash.{Cut}
 use Rattle.journal.specs.Device.{Device, chosen}
 use Rattle.server.specs.Refines.{cause_in, model_of}
-use Rattle.server.proofs.Refining.{tick-stands, ticks-on}
+use Rattle.server.proofs.Refining.{tick_stands, ticks-on}
 use Rattle.system.specs.Parties.{Parties, Event, ToServer, ToClient, Cuts, Damages, Within, Outcome, cut_by, damaged_by, happens, places, sends, server_does, with_device}
 use Rattle.system.specs.Watch.{Watch, apart, differ, exhausts, grants, is_tick, is_tick_in, knows, noted, or_first, watched}
 use Rattle.system.proofs.Watching.{Unbroken, narrow}
@@ -52,16 +52,16 @@ module _ (k : model.Settings) (p : ℕ) (x : Parties) (w : Watch) (b : Base k p 
   abbrev later : server.State
   later = with_server (server_passes 1 s.server) s
 
-  tick-model : Home k s → model_of k later ≡ server_passes 1 (model_of k s)
-  tick-model (inl st) = ticks-on k s st
-  tick-model (inr un) =
+  tick_model : Home k s → model_of k later ≡ server_passes 1 (model_of k s)
+  tick_model (inl st) = ticks-on k s st
+  tick_model (inr un) =
       let o : Bool = over (s.server.clock + 1) s.server.up s.server.silent in
       let e : o ≡ false = ap (λ (z : Option ℕ). over (s.server.clock + 1) s.server.up z) un.quiet in
       ap (λ (v : core.Server). model_of k (with_server v s)) (cond-false o _ _ e) ∙ sym (cond-false o _ _ e)
 
-  tick-home : Home k s → Home k later
-  tick-home (inl st) = inl (tick-stands k s st)
-  tick-home (inr un) =
+  tick_home : Home k s → Home k later
+  tick_home (inl st) = inl (tick_stands k s st)
+  tick_home (inr un) =
       let o : Bool = over (s.server.clock + 1) s.server.up s.server.silent in
       let e : o ≡ false = ap (λ (z : Option ℕ). over (s.server.clock + 1) s.server.up z) un.quiet in
       inr (record { unknown = un.unknown; new = un.new; quiet = ap (λ (v : core.Server). v.silent) (cond-false o _ _ e) ∙ un.quiet })
@@ -82,8 +82,8 @@ module _ (k : model.Settings) (p : ℕ) (x : Parties) (w : Watch) (b : Base k p 
         sound = same k (Moment x w) (Moment y v₀) b.world b.sound
             (λ c t h m. record { known = known m.known; place = m.place; within = m.within; own = m.own; lead = m.lead; noted = m.noted; at = m.at });
         tidy = b.tidy;
-        server = tick-model b.home ∙ ap (server_passes 1) b.server;
-        home = tick-home b.home;
+        server = tick_model b.home ∙ ap (server_passes 1) b.server;
+        home = tick_home b.home;
         clock = omega (arith, c.0, low);
         clients = b.clients;
         owned = b.owned;
@@ -118,22 +118,22 @@ module _ (k : model.Settings) (x : Parties) (w : Watch) (judged : Bool) where
   -- from before the moment is judged
   settle : (e : Event) (o : Outcome) → (p : ℕ) → ((u : Unbroken e x o w (watched judged e o w)) → ((j : model.Settings) → (watched judged e o w).settings ≡ Some j → j ≡ k) → Base k p o.parties (watched false e o w)) →
       Kept e o
-  settle e o p f u fin = by-judgement judged refl
+  settle e o p f u fin = by_judgement judged refl
     where
-      by-judgement : (g : Bool) → judged ≡ g → Follows k judged o.parties (watched judged e o w)
-      by-judgement true h =
+      by_judgement : (g : Bool) → judged ≡ g → Follows k judged o.parties (watched judged e o w)
+      by_judgement true h =
           subst (λ (z : Bool). Follows k z o.parties (watched z e o w)) (sym h)
           (judge k p o.parties (watched false e o w) (f u fin)
           (narrow k (watched true e o w).settings (watched true e o w).leads (subst (λ (z : Bool). (j : model.Settings) → (watched z e o w).settings ≡ Some j → j ≡ k) h fin)
           (subst (λ (z : Bool). Unbroken e x o w (watched z e o w)) h u).near))
-      by-judgement false h = subst (λ (z : Bool). Follows k z o.parties (watched z e o w)) (sym h) (p, f u fin)
+      by_judgement false h = subst (λ (z : Bool). Follows k z o.parties (watched z e o w)) (sym h) (p, f u fin)
 
   -- from any moment on
-  client-event : (p : ℕ) → Base k p x w → (i : ℕ) (bs : List ℕ) → i < places → Kept (ToClient i bs) (happens (ToClient i bs) x)
-  client-event p b i bs i< = settle (ToClient i bs) (happens (ToClient i bs) x) p (λ u fin. client-base k p x w b i i< bs judged u fin)
+  client_event : (p : ℕ) → Base k p x w → (i : ℕ) (bs : List ℕ) → i < places → Kept (ToClient i bs) (happens (ToClient i bs) x)
+  client_event p b i bs i< = settle (ToClient i bs) (happens (ToClient i bs) x) p (λ u fin. client-base k p x w b i i< bs judged u fin)
 
-  server-tick : (p : ℕ) → Base k p x w → (bs : List ℕ) → is_tick_in (read bs) ≡ true → Kept (ToServer bs) (happens (ToServer bs) x)
-  server-tick p b bs e = settle (ToServer bs) (happens (ToServer bs) x) (suc p) (λ u fin. server-ticks k p x w b bs (tick_is (read bs) e) u.counts bs)
+  server_tick : (p : ℕ) → Base k p x w → (bs : List ℕ) → is_tick_in (read bs) ≡ true → Kept (ToServer bs) (happens (ToServer bs) x)
+  server_tick p b bs e = settle (ToServer bs) (happens (ToServer bs) x) (suc p) (λ u fin. server-ticks k p x w b bs (tick_is (read bs) e) u.counts bs)
 
 -- an event of the server that is no tick, at a moment that was judged
 module _ (k : model.Settings) (x : Parties) (w : Watch) (f : Judged k x w) where
@@ -144,12 +144,12 @@ module _ (k : model.Settings) (x : Parties) (w : Watch) (f : Judged k x w) where
   Served e t = Unbroken e x (server_does t x) w (watched true e (server_does t x) w) → ((j : model.Settings) → (watched true e (server_does t x) w).settings ≡ Some j → j ≡ k) →
       Judged k (server_does t x).parties (watched true e (server_does t x) w)
 
-  hears-event : (bs : List ℕ) → is_tick_in (read bs) ≡ false → Served (ToServer bs) (hears bs x.server)
-  hears-event bs calm u fin =
+  hears_event : (bs : List ℕ) → is_tick_in (read bs) ≡ false → Served (ToServer bs) (hears bs x.server)
+  hears_event bs calm u fin =
       let t : server.Step = hears bs x.server in
       let g : serving.Good k x w b t = elim b.home [
         | inl st ↦ serving.settled-hears k x w b st bs calm u.sent u.forward
-        | inr un ↦ serving.unsettled-hears k x w b un bs calm u.forward
+        | inr un ↦ serving.unsettled_hears k x w b un bs calm u.forward
       ] in
       let q : (q : Serves k x w t.state (or_first w.settings t.state.settings)) × _ = g u.counts u.settings fin in
       server-follows k x w f t.state (or_first w.settings t.state.settings) q.0 (grants (sends t.effects))
@@ -160,18 +160,18 @@ module _ (k : model.Settings) (x : Parties) (w : Watch) (f : Judged k x w) where
   told_none None = refl
   told_none (Some u) = refl
 
-  damage-none : (o : Option model.Settings) (d : Device) (clock : ℕ) → grants (sends (damaged_by o d clock x.server).effects) ≡ []
+  damage_none : (o : Option model.Settings) (d : Device) (clock : ℕ) → grants (sends (damaged_by o d clock x.server).effects) ≡ []
   unfolding grants sends
-  damage-none None d clock = refl
-  damage-none (Some j) d clock =
+  damage_none None d clock = refl
+  damage_none (Some j) d clock =
       cond_both (is_lost (chosen 4096 d) && ltb clock (2 ^ 63)) (server.reads j clock (with_device d x.server)) (silently x.server) (λ (t : server.Step). grants (sends t.effects) ≡ [])
       (λ e. told_none (server.rereads j clock d x.server.server).silent) (λ e. refl)
 
   -- a step that sends no grant
-  unsent-event : (e : Event) (t : server.Step) → serving.Good k x w b t → grants (sends t.effects) ≡ [] →
+  unsent_event : (e : Event) (t : server.Step) → serving.Good k x w b t → grants (sends t.effects) ≡ [] →
       watched true e (server_does t x) w ≡ record { requests = w.requests; grants = w.grants; nonces = w.nonces; settings = or_first w.settings t.state.settings; leads = noted (server_does t x).parties w.leads } →
       knows e (server_does t x).parties ≡ t.state.settings → Served e t
-  unsent-event e t g none v kn u fin =
+  unsent_event e t g none v kn u fin =
       let st : Option model.Settings = or_first w.settings t.state.settings in
       let same : (watched true e (server_does t x) w).settings ≡ st = ap (λ (z : Watch). z.settings) v in
       let fin' : (j : model.Settings) → st ≡ Some j → j ≡ k = λ j h. fin j (same ∙ h) in
@@ -181,22 +181,22 @@ module _ (k : model.Settings) (x : Parties) (w : Watch) (f : Judged k x w) where
       subst (λ (z : Watch). Judged k (server_does t x).parties z) (sym v)
       (server-follows k x w f t.state st q.0 [] (narrow k st (noted (server_does t x).parties w.leads) fin' near) (sym none ∙ q.1))
 
-  cut-event : (bs : List ℕ) (n : ℕ) (c : Cut) → Served (Cuts bs n c) (silently (cut_by x.server.settings (cause_in (understood bs x.server)) n c x.server))
+  cut_event : (bs : List ℕ) (n : ℕ) (c : Cut) → Served (Cuts bs n c) (silently (cut_by x.server.settings (cause_in (understood bs x.server)) n c x.server))
   unfolding grants sends
-  cut-event bs n c u fin =
-      unsent-event (Cuts bs n c) (silently (cut_by x.server.settings (cause_in (understood bs x.server)) n c x.server))
+  cut_event bs n c u fin =
+      unsent_event (Cuts bs n c) (silently (cut_by x.server.settings (cause_in (understood bs x.server)) n c x.server))
       (elim b.home [
         | inl st ↦ serving.settled-cut k x w b st bs n c u.sent
-        | inr un ↦ serving.unsettled-cut k x w b un bs n c
+        | inr un ↦ serving.unsettled_cut k x w b un bs n c
       ]) refl refl refl u fin
 
-  damage-event : (d : Device) (clock : ℕ) → Served (Damages d clock) (damaged_by x.server.settings d clock x.server)
-  damage-event d clock u fin =
-      unsent-event (Damages d clock) (damaged_by x.server.settings d clock x.server)
+  damage_event : (d : Device) (clock : ℕ) → Served (Damages d clock) (damaged_by x.server.settings d clock x.server)
+  damage_event d clock u fin =
+      unsent_event (Damages d clock) (damaged_by x.server.settings d clock x.server)
       (elim b.home [
-        | inl st ↦ serving.settled-damaged k x w b st d clock u.forward
-        | inr un ↦ serving.unsettled-damaged k x w b un d clock
-      ]) (damage-none x.server.settings d clock) refl refl u fin
+        | inl st ↦ serving.settled_damaged k x w b st d clock u.forward
+        | inr un ↦ serving.unsettled_damaged k x w b un d clock
+      ]) (damage_none x.server.settings d clock) refl refl u fin
 
 -- ONE STEP OF A RUN: ticks follow each other unjudged, everything else is judged
 module _ (k : model.Settings) (x : Parties) (w : Watch) where
@@ -208,18 +208,18 @@ module _ (k : model.Settings) (x : Parties) (w : Watch) where
   judged-of true f h = f
   judged-of false f h = absurd (h refl)
 
-  only-judged : (e : Event) (judged : Bool) → (judged ≡ false → ⊥) → Kept k x w true e (happens e x) → Kept k x w judged e (happens e x)
-  only-judged e true h f = f
-  only-judged e false h f = absurd (h refl)
+  only_judged : (e : Event) (judged : Bool) → (judged ≡ false → ⊥) → Kept k x w true e (happens e x) → Kept k x w judged e (happens e x)
+  only_judged e true h f = f
+  only_judged e false h f = absurd (h refl)
 
-  pub one-event : (j judged : Bool) (e : Event) → Within e → Follows k j x w → (j ≡ false → is_tick e ≡ true) → (judged ≡ false → is_tick e ≡ true) → Kept k x w judged e (happens e x)
-  one-event j judged (ToServer bs) i f before now =
+  pub one_event : (j judged : Bool) (e : Event) → Within e → Follows k j x w → (j ≡ false → is_tick e ≡ true) → (judged ≡ false → is_tick e ≡ true) → Kept k x w judged e (happens e x)
+  one_event j judged (ToServer bs) i f before now =
       elim (cases_Bool (is_tick_in (read bs))) [
-        | inl t ↦ let p : (p : ℕ) × Base k p x w = base-of j f in server-tick k x w judged p.0 p.1 bs t
-        | inr t ↦ only-judged (ToServer bs) judged (λ e. both_ways _ t (now e)) (hears-event k x w (judged-of j f (λ e. both_ways _ t (before e))) bs t)
+        | inl t ↦ let p : (p : ℕ) × Base k p x w = base-of j f in server_tick k x w judged p.0 p.1 bs t
+        | inr t ↦ only_judged (ToServer bs) judged (λ e. both_ways _ t (now e)) (hears_event k x w (judged-of j f (λ e. both_ways _ t (before e))) bs t)
       ]
-  one-event j judged (ToClient i bs) l f before now = let p : (p : ℕ) × Base k p x w = base-of j f in client-event k x w judged p.0 p.1 i bs l
-  one-event j judged (Cuts bs n c) i f before now =
-      only-judged (Cuts bs n c) judged (λ e. both_ways false refl (now e)) (cut-event k x w (judged-of j f (λ e. both_ways false refl (before e))) bs n c)
-  one-event j judged (Damages d clock) i f before now =
-      only-judged (Damages d clock) judged (λ e. both_ways false refl (now e)) (damage-event k x w (judged-of j f (λ e. both_ways false refl (before e))) d clock)
+  one_event j judged (ToClient i bs) l f before now = let p : (p : ℕ) × Base k p x w = base-of j f in client_event k x w judged p.0 p.1 i bs l
+  one_event j judged (Cuts bs n c) i f before now =
+      only_judged (Cuts bs n c) judged (λ e. both_ways false refl (now e)) (cut_event k x w (judged-of j f (λ e. both_ways false refl (before e))) bs n c)
+  one_event j judged (Damages d clock) i f before now =
+      only_judged (Damages d clock) judged (λ e. both_ways false refl (now e)) (damage_event k x w (judged-of j f (λ e. both_ways false refl (before e))) d clock)

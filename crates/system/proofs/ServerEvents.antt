@@ -19,59 +19,59 @@ use Rattle.server.specs.Follows.{sent_on}
 use Rattle.system.specs.Parties.{Parties, places}
 use Rattle.system.specs.Watch.{Lead, Watch, requested, granted, same_grant, noted}
 use Rattle.system.proofs.Lifting.{serves-keeps, forgets-keeps, Fine, Leans, Lifts, lift}
-use Rattle.system.proofs.Watching.{Wider, At, grant-same, noted-wider, noted-now}
+use Rattle.system.proofs.Watching.{Wider, At, grant-same, noted_wider, noted_now}
 use Rattle.system.proofs.Following.{Moment, Home, Queues, Base, Near, Judged, ticked, is_up, judge, lately, server-clock, with_leads}
 
 -- what was sent stays so, and grants that are sent are there
-pub still-sent : (m : Message) (gs : List given.Grant) (ms : List Message) → In m ms → In m (sent_on gs ms)
-still-sent m [] ms i = i
-still-sent m (g ∷ gs) ms i = still-sent m gs (Grants g ∷ ms) (inr i)
+pub still_sent : (m : Message) (gs : List given.Grant) (ms : List Message) → In m ms → In m (sent_on gs ms)
+still_sent m [] ms i = i
+still_sent m (g ∷ gs) ms i = still_sent m gs (Grants g ∷ ms) (inr i)
 
-pub now-sent : (g : given.Grant) (gs : List given.Grant) (ms : List Message) → granted g gs ≡ true → In (Grants g) (sent_on gs ms)
+pub now_sent : (g : given.Grant) (gs : List given.Grant) (ms : List Message) → granted g gs ≡ true → In (Grants g) (sent_on gs ms)
 unfolding granted
-now-sent g [] ms e = absurd (both_ways false refl e)
-now-sent g (h ∷ gs) ms e =
+now_sent g [] ms e = absurd (both_ways false refl e)
+now_sent g (h ∷ gs) ms e =
     elim (cases_Bool (same_grant g h)) [
-      | inl s ↦ still-sent (Grants g) gs (Grants h ∷ ms) (inl (ap (λ (z : given.Grant). Grants z) (grant-same g h s)))
-      | inr s ↦ now-sent g gs (Grants h ∷ ms) (or-rest (same_grant g h) (granted g gs) s e)
+      | inl s ↦ still_sent (Grants g) gs (Grants h ∷ ms) (inl (ap (λ (z : given.Grant). Grants z) (grant-same g h s)))
+      | inr s ↦ now_sent g gs (Grants h ∷ ms) (or_rest (same_grant g h) (granted g gs) s e)
     ]
   where
-    or-rest : (a b : Bool) → a ≡ false → (a || b) ≡ true → b ≡ true
-    or-rest true b s e = absurd (both_ways true s refl)
-    or-rest false b s e = e
+    or_rest : (a b : Bool) → a ≡ false → (a || b) ≡ true → b ≡ true
+    or_rest true b s e = absurd (both_ways true s refl)
+    or_rest false b s e = e
 
-either-so : (b : Bool) (P Q R : Bool) → ((P ≡ true) → (Q ≡ true) ⊎ (R ≡ true)) → (b || P) ≡ true → ((b || Q) ≡ true) ⊎ (R ≡ true)
-either-so true P Q R f e = inl refl
-either-so false P Q R f e = f e
+either_so : (b : Bool) (P Q R : Bool) → ((P ≡ true) → (Q ≡ true) ⊎ (R ≡ true)) → (b || P) ≡ true → ((b || Q) ≡ true) ⊎ (R ≡ true)
+either_so true P Q R f e = inl refl
+either_so false P Q R f e = f e
 
-pub granted-either : (g : given.Grant) (gs hs : List given.Grant) → granted g (gs ++ hs) ≡ true → (granted g gs ≡ true) ⊎ (granted g hs ≡ true)
+pub granted_either : (g : given.Grant) (gs hs : List given.Grant) → granted g (gs ++ hs) ≡ true → (granted g gs ≡ true) ⊎ (granted g hs ≡ true)
 unfolding granted
-granted-either g [] hs e = inr e
-granted-either g (h ∷ gs) hs e = either-so (same_grant g h) (granted g (gs ++ hs)) (granted g gs) (granted g hs) (λ f. granted-either g gs hs f) e
+granted_either g [] hs e = inr e
+granted_either g (h ∷ gs) hs e = either_so (same_grant g h) (granted g (gs ++ hs)) (granted g gs) (granted g hs) (λ f. granted_either g gs hs f) e
 
 -- the clock stays, or is the one of the restart
 abbrev Clocked : Cause → (before after : ℕ) → Type 0
 Clocked o n m = (m ≡ n) ⊎ (o ≡ Rising m)
 
-clocked-from : (o : Cause) (n n' m : ℕ) → n' ≡ n → Clocked o n' m → Clocked o n m
-clocked-from o n n' m e (inl p) = inl (p ∙ e)
-clocked-from o n n' m e (inr p) = inr p
+clocked_from : (o : Cause) (n n' m : ℕ) → n' ≡ n → Clocked o n' m → Clocked o n m
+clocked_from o n n' m e (inl p) = inl (p ∙ e)
+clocked_from o n n' m e (inr p) = inr p
 
-clocked-to : (o : Cause) (n n' m : ℕ) → o ≡ Rising n' → Clocked o n' m → Clocked o n m
-clocked-to o n n' m e (inl p) = inr (e ∙ ap Rising (sym p))
-clocked-to o n n' m e (inr p) = inr p
+clocked_to : (o : Cause) (n n' m : ℕ) → o ≡ Rising n' → Clocked o n' m → Clocked o n m
+clocked_to o n n' m e (inl p) = inr (e ∙ ap Rising (sym p))
+clocked_to o n n' m e (inr p) = inr p
 
-pub clock-by : (k : model.Settings) (o : Cause) (untimed : o ≡ Time → ⊥) (evs : List Event) (v : core.Server) → AllFrom o evs → Clocked o v.clock (occur k evs v).clock
-clock-by k o untimed [] v h = inl refl
-clock-by k o untimed (Passes n ∷ evs) v h = absurd (untimed h.0.0)
-clock-by k o untimed (Hears r ∷ evs) v h = clocked-from o v.clock _ _ (serves-keeps k v (answer k v r)).0 (clock-by k o untimed evs (occurs k (Hears r) v) h.1)
-clock-by k o untimed (HearsAndCrashes r wrote ∷ evs) v h =
-    clocked-from o v.clock _ _ (cond_both wrote (serves k (answer k v r) v) v (λ (z : core.Server). z.clock ≡ v.clock) (λ e. (serves-keeps k v (answer k v r)).0) (λ e. refl))
-    (clock-by k o untimed evs (occurs k (HearsAndCrashes r wrote) v) h.1)
-clock-by k o untimed (Crashes ∷ evs) v h = clock-by k o untimed evs (crashes v) h.1
-clock-by k o untimed (Forgets gone ∷ evs) v h = clocked-from o v.clock _ _ (forgets-keeps gone v).0 (clock-by k o untimed evs (forgets gone v) h.1)
-clock-by k o untimed (Restarts clock lost ∷ evs) v h =
-    clocked-to o v.clock _ _ (h.0 ∙ ap Rising (sym (restarts-clock k clock lost v).0)) (clock-by k o untimed evs (restarts k clock lost v) h.1)
+pub clock_by : (k : model.Settings) (o : Cause) (untimed : o ≡ Time → ⊥) (evs : List Event) (v : core.Server) → AllFrom o evs → Clocked o v.clock (occur k evs v).clock
+clock_by k o untimed [] v h = inl refl
+clock_by k o untimed (Passes n ∷ evs) v h = absurd (untimed h.0.0)
+clock_by k o untimed (Hears r ∷ evs) v h = clocked_from o v.clock _ _ (serves-keeps k v (answer k v r)).0 (clock_by k o untimed evs (occurs k (Hears r) v) h.1)
+clock_by k o untimed (HearsAndCrashes r wrote ∷ evs) v h =
+    clocked_from o v.clock _ _ (cond_both wrote (serves k (answer k v r) v) v (λ (z : core.Server). z.clock ≡ v.clock) (λ e. (serves-keeps k v (answer k v r)).0) (λ e. refl))
+    (clock_by k o untimed evs (occurs k (HearsAndCrashes r wrote) v) h.1)
+clock_by k o untimed (Crashes ∷ evs) v h = clock_by k o untimed evs (crashes v) h.1
+clock_by k o untimed (Forgets gone ∷ evs) v h = clocked_from o v.clock _ _ (forgets-keeps gone v).0 (clock_by k o untimed evs (forgets gone v) h.1)
+clock_by k o untimed (Restarts clock lost ∷ evs) v h =
+    clocked_to o v.clock _ _ (h.0 ∙ ap Rising (sym (restarts-clock k clock lost v).0)) (clock_by k o untimed evs (restarts k clock lost v) h.1)
 
 -- a step of the server, as events of the lending core, and what it may lean on
 pub record Serves (k : model.Settings) (x : Parties) (w : Watch) (s' : server.State) (settings' : Option model.Settings) : Type 0 where
@@ -103,17 +103,17 @@ module _ (k : model.Settings) (x : Parties) (w : Watch) (f : Judged k x w) (s' :
   here : (x.server.server.clock ≡ b.world.server.clock + 0) × (x.server.server.up ≡ b.world.server.up)
   here = server-clock k 0 x w b
 
-  fine-now : b.world.server.up ≡ true → Fine k S q.cause b.world b.world.server.clock
-  fine-now up c t h m before soon = lately k x w f up c t h m soon
+  fine_now : b.world.server.up ≡ true → Fine k S q.cause b.world b.world.server.clock
+  fine_now up c t h m before soon = lately k x w f up c t h m soon
 
   module _ (slim : (i : ℕ) → i < places → is_some settings' ≡ true → (d : Lead) → noted y w.leads i ≡ Some d → d.most ≤ d.least + k.skew) where
-    fine-rising : (clock : ℕ) → q.cause ≡ Rising clock → Fine k S q.cause b.world clock
-    fine-rising clock o c t h m before soon =
+    fine_rising : (clock : ℕ) → q.cause ≡ Rising clock → Fine k S q.cause b.world clock
+    fine_rising clock o c t h m before soon =
         let r : (x.server.server.clock ≤ clock) × (s'.server.up ≡ true) × (s'.server.clock ≡ clock) = q.onward clock o in
         let e : b.world.clients c ≡ (x.clients m.place).state.holder = b.clients m.place c m.within m.own in
         let n : (d : Lead) × (noted y w.leads m.place ≡ Some d) × At d (x.clients m.place).state.holder.clock s'.server.clock =
-        noted-now y w.leads m.place q.clock (and_from _ _ r.1 (and_from _ _ (is_up k x w f c t h m) (ap is_some m.own))) in
-        let p : (d : Lead) × (noted y w.leads m.place ≡ Some d) × Wider m.lead d = noted-wider y w.leads m.place m.lead m.noted in
+        noted_now y w.leads m.place q.clock (and_from _ _ r.1 (and_from _ _ (is_up k x w f c t h m) (ap is_some m.own))) in
+        let p : (d : Lead) × (noted y w.leads m.place ≡ Some d) × Wider m.lead d = noted_wider y w.leads m.place m.lead m.noted in
         let z : p.0 ≡ n.0 = some_same _ _ (sym p.1 ∙ n.1) in
         let a₃ : m.lead.most ≤ n.0.most = subst (λ (d : Lead). m.lead.most ≤ d.most) z p.2.most in
         let g : n.0.most ≤ n.0.least + k.skew = slim m.place m.within (q.known m.known) n.0 n.1 in
@@ -126,8 +126,8 @@ module _ (k : model.Settings) (x : Parties) (w : Watch) (f : Judged k x w) (s' :
     leans =
         record {
           requested = λ r e. b.requests r (q.requested r e).0;
-          onward = λ clock e. (omega (arith, (q.onward clock e).0, here.0), fine-rising clock e);
-          fine = fine-now;
+          onward = λ clock e. (omega (arith, (q.onward clock e).0, here.0), fine_rising clock e);
+          fine = fine_now;
           noted = λ r e up c cup.
               let i : (i : ℕ) × (i < places) × ((x.clients i).state.own ≡ Some c) = b.owned c cup in
               let g : b.world.clients c ≡ (x.clients i.0).state.holder = b.clients i.0 c i.1 i.2 in
@@ -169,11 +169,11 @@ module _ (k : model.Settings) (x : Parties) (w : Watch) (f : Judged k x w) (s' :
           alone = b.alone;
           agreed = b.agreed;
           told = q.told;
-          requests = λ r g. subst (λ (z : List Message). In (Requests r) z) (sym ms) (still-sent (Requests r) gs b.world.messages (b.requests r g));
+          requests = λ r g. subst (λ (z : List Message). In (Requests r) z) (sym ms) (still_sent (Requests r) gs b.world.messages (b.requests r g));
           grants = λ g h. subst (λ (z : List Message). In (Grants g) z) (sym ms)
-              (elim (granted-either g gs w.grants h) [
-                | inl i ↦ now-sent g gs b.world.messages i
-                | inr i ↦ still-sent (Grants g) gs b.world.messages (b.grants g i)
+              (elim (granted_either g gs w.grants h) [
+                | inl i ↦ now_sent g gs b.world.messages i
+                | inr i ↦ still_sent (Grants g) gs b.world.messages (b.grants g i)
               ]);
           queues = subst (λ (z : List ℕ). Queues y v₀ z) (sym l.drawn)
               (record { distinct = b.queues.distinct; apart = b.queues.apart; unused = b.queues.unused; lent = b.queues.lent; spent = b.queues.spent });

@@ -23,8 +23,8 @@ use Rattle.client.specs.Client.{Client, Step, keeps, sends, ready, asks_by, asks
 use Rattle.system.specs.Watch.{start_in}
 
 -- a fault is no turn
-fault-turn : (f : lease.Fault) (t : Turn) → ◌≡◌ {A = Result Turn lease.Fault} (Err f) (Ok t) → ⊥
-fault-turn f t e = let z : ◌≡◌ {A = ℕ} 0 1 = cc in omega arith
+fault_turn : (f : lease.Fault) (t : Turn) → ◌≡◌ {A = Result Turn lease.Fault} (Err f) (Ok t) → ⊥
+fault_turn f t e = let z : ◌≡◌ {A = ℕ} 0 1 = cc in omega arith
 
 same_turn : (s t : Turn) → ◌≡◌ {A = Result Turn lease.Fault} (Ok s) (Ok t) → s ≡ t
 same_turn s t e = cc
@@ -48,32 +48,32 @@ module _ (bs : List ℕ) (c : Client) (P : Step → Type 0) (refused : (f : leas
   faulty : (m : Message) → read bs ≡ Some m → start_in (Some m) ≡ None → (f : lease.Fault) → P (refuses f c)
   faulty m e h f = refused f (ap start_in e ∙ h)
 
-  by-message : (n : Option ℕ) (m : Message) → read bs ≡ Some m → P (answers c (judged reader.Client n m))
-  by-message n (Request r) e = faulty (Request r) e refl _
-  by-message None (Grant g) e = faulty (Grant g) e refl _
-  by-message (Some n) (Grant g) e = cond_both (ltb g.address n) _ _ (λ a. P (answers c a)) (λ f. quietly (Grant g) e refl) (λ f. faulty (Grant g) e refl _)
-  by-message None (Settings n t k) e = cond_both (valid n t k) _ _ (λ a. P (answers c a)) (λ f. quietly (Settings n t k) e refl) (λ f. faulty (Settings n t k) e refl _)
-  by-message (Some p) (Settings n t k) e = faulty (Settings n t k) e refl _
-  by-message n Tick e = quietly Tick e refl
-  by-message n Crash e = quietly Crash e refl
-  by-message n (Restart clock) e =
+  by_message : (n : Option ℕ) (m : Message) → read bs ≡ Some m → P (answers c (judged reader.Client n m))
+  by_message n (Request r) e = faulty (Request r) e refl _
+  by_message None (Grant g) e = faulty (Grant g) e refl _
+  by_message (Some n) (Grant g) e = cond_both (ltb g.address n) _ _ (λ a. P (answers c a)) (λ f. quietly (Grant g) e refl) (λ f. faulty (Grant g) e refl _)
+  by_message None (Settings n t k) e = cond_both (valid n t k) _ _ (λ a. P (answers c a)) (λ f. quietly (Settings n t k) e refl) (λ f. faulty (Settings n t k) e refl _)
+  by_message (Some p) (Settings n t k) e = faulty (Settings n t k) e refl _
+  by_message n Tick e = quietly Tick e refl
+  by_message n Crash e = quietly Crash e refl
+  by_message n (Restart clock) e =
       cond_both (leb (2 ^ 63) clock) _ _ (λ r. does (Restart clock) c.state ≡ r → P (goes_on c (queued (Restart clock) c.nonces) r))
       (λ f d. going (Restart clock) e _ d (λ g h. late clock f))
-      (λ f d. going (Restart clock) e _ d (λ g h. absurd (fault-turn g _ (sym h))))
+      (λ f d. going (Restart clock) e _ d (λ g h. absurd (fault_turn g _ (sym h))))
       refl
-  by-message n (OwnNumber m) e = quietly (OwnNumber m) e refl
-  by-message n (Nonce m) e = quietly (Nonce m) e refl
-  by-message n (InUse a u) e = faulty (InUse a u) e refl _
-  by-message n NoAddress e = faulty NoAddress e refl _
-  by-message n (Fault f) e = faulty (Fault f) e refl _
+  by_message n (OwnNumber m) e = quietly (OwnNumber m) e refl
+  by_message n (Nonce m) e = quietly (Nonce m) e refl
+  by_message n (InUse a u) e = faulty (InUse a u) e refl _
+  by_message n NoAddress e = faulty NoAddress e refl _
+  by_message n (Fault f) e = faulty (Fault f) e refl _
 
-  by-reading : (n : Option ℕ) (o : Option Message) → read bs ≡ o → P (answers c (answered reader.Client n o))
-  by-reading n None e = refused _ (ap start_in e)
-  by-reading n (Some m) e = by-message n m e
+  by_reading : (n : Option ℕ) (o : Option Message) → read bs ≡ o → P (answers c (answered reader.Client n o))
+  by_reading n None e = refused _ (ap start_in e)
+  by_reading n (Some m) e = by_message n m e
 
   pub client-hears : P (hears bs c)
   unfolding hears
-  client-hears = by-reading (option_map size c.state.settings) (read bs) refl
+  client-hears = by_reading (option_map size c.state.settings) (read bs) refl
 
 -- WHAT A TURN MAKES of clock, power and holding
 abbrev pub HolderBy : Message → State → world.Client → Type 0
@@ -159,10 +159,10 @@ module _ (s : State) where
 
 -- THEN IT MAY ASK
 module _ (t : Turn) (P : Step → Type 0) where
-  pub may-ask : (k : Option model.Settings) (o : Option ℕ) (ns : List ℕ) → t.state.settings ≡ k → t.state.own ≡ o → P (keeps t ns) →
+  pub may_ask : (k : Option model.Settings) (o : Option ℕ) (ns : List ℕ) → t.state.settings ≡ k → t.state.own ≡ o → P (keeps t ns) →
       ((k : model.Settings) (c n : ℕ) (ms : List ℕ) → t.state.settings ≡ Some k → t.state.own ≡ Some c → ns ≡ n ∷ ms → t.state.holder.up ≡ true → P (sends k c n t ms)) → P (asks_by k o t ns)
-  may-ask None o ns e f keep send = keep
-  may-ask (Some k) None ns e f keep send = keep
-  may-ask (Some k) (Some c) [] e f keep send = keep
-  may-ask (Some k) (Some c) (n ∷ ns) e f keep send =
+  may_ask None o ns e f keep send = keep
+  may_ask (Some k) None ns e f keep send = keep
+  may_ask (Some k) (Some c) [] e f keep send = keep
+  may_ask (Some k) (Some c) (n ∷ ns) e f keep send =
       cond_both (ready t.state) _ _ P (λ r. send k c n ns e f refl (and_parts t.state.holder.up (is_due t.state.schedule t.state.holder.clock) r).0) (λ r. keep)

@@ -32,18 +32,18 @@ pub record Unbroken (e : Event) (x : Parties) (y : Outcome) (w v : Watch) : Type
   pub settings : differ v.settings (knows e y.parties) ≡ false
   pub counts : exhausts y.said ≡ false
 
-or-else : (b : Bool) (p : Premise) (o : Option Premise) → or_else b p o ≡ None → (b ≡ false) × (o ≡ None)
-or-else true p o e = absurd (none-some p (sym e))
-or-else false p o e = (refl, e)
+or_else_lem : (b : Bool) (p : Premise) (o : Option Premise) → or_else b p o ≡ None → (b ≡ false) × (o ≡ None)
+or_else_lem true p o e = absurd (none-some p (sym e))
+or_else_lem false p o e = (refl, e)
 
 pub unbroken : (e : Event) (x : Parties) (y : Outcome) (w v : Watch) → breaks e x y w v ≡ None → Unbroken e x y w v
 unbroken e x y w v n =
-    let p₁ : _ × _ = or-else _ _ _ n in
-    let p₂ : _ × _ = or-else _ _ _ p₁.1 in
-    let p₃ : _ × _ = or-else _ _ _ p₂.1 in
-    let p₄ : _ × _ = or-else _ _ _ p₃.1 in
-    let p₅ : _ × _ = or-else _ _ _ p₄.1 in
-    let p₆ : _ × _ = or-else _ _ _ p₅.1 in
+    let p₁ : _ × _ = or_else_lem _ _ _ n in
+    let p₂ : _ × _ = or_else_lem _ _ _ p₁.1 in
+    let p₃ : _ × _ = or_else_lem _ _ _ p₂.1 in
+    let p₄ : _ × _ = or_else_lem _ _ _ p₃.1 in
+    let p₅ : _ × _ = or_else_lem _ _ _ p₄.1 in
+    let p₆ : _ × _ = or_else_lem _ _ _ p₅.1 in
     let c : (sets_back e x ≡ false) × (apart v.settings v.leads ≡ false) = or_parts (sets_back e x) (apart v.settings v.leads) p₁.0 in
     record { forward = c.0; near = c.1; sent = p₂.0; nonces = p₃.0; numbers = p₄.0; settings = p₅.0; counts = p₆.0 }
 
@@ -114,14 +114,14 @@ pub record Wider (d d' : Lead) : Type 0 where
   pub least : d'.least ≤ d.least
   pub most : d.most ≤ d'.most
 
-pub wider-self : (d : Lead) → Wider d d
-wider-self d = record { least = omega arith; most = omega arith }
+pub wider_self : (d : Lead) → Wider d d
+wider_self d = record { least = omega arith; most = omega arith }
 
 abbrev pub At : Lead → (t h : ℕ) → Type 0
 At d t h = (d.least + h ≤ t + 2 ^ 63) × (t + 2 ^ 63 ≤ d.most + h)
 
-pub wider-at : (d d' : Lead) (t h : ℕ) → Wider d d' → At d t h → At d' t h
-wider-at d d' t h w a = (omega (arith, w.least, a.0), omega (arith, w.most, a.1))
+pub wider_at : (d d' : Lead) (t h : ℕ) → Wider d d' → At d t h → At d' t h
+wider_at d d' t h w a = (omega (arith, w.least, a.0), omega (arith, w.most, a.1))
 
 module _ (x : Parties) (ls : ℕ → Option Lead) (i : ℕ) where
   abbrev t : ℕ
@@ -146,16 +146,16 @@ module _ (x : Parties) (ls : ℕ → Option Lead) (i : ℕ) where
       )
 
   -- noting loses nothing
-  pub noted-wider : Noted (ls i) (noted x ls i)
-  noted-wider = cond_both (both_up x i) _ (ls i) (λ o. Noted (ls i) o) (λ e. widens (ls i)) (λ e d f. (d, f, wider-self d))
+  pub noted_wider : Noted (ls i) (noted x ls i)
+  noted_wider = cond_both (both_up x i) _ (ls i) (λ o. Noted (ls i) o) (λ e. widens (ls i)) (λ e d f. (d, f, wider_self d))
 
-  has-now : h < 2 ^ 63 → (o : Option Lead) → At (widened (lead t h) o) t h
-  has-now l None = (omega arith, omega arith)
-  has-now l (Some b) = (omega (arith, min-le_right b.least (lead t h)), omega (arith, le-max_right b.most (lead t h)))
+  has_now : h < 2 ^ 63 → (o : Option Lead) → At (widened (lead t h) o) t h
+  has_now l None = (omega arith, omega arith)
+  has_now l (Some b) = (omega (arith, min-le_right b.least (lead t h)), omega (arith, le-max_right b.most (lead t h)))
 
   -- and has the moment of now
-  pub noted-now : h < 2 ^ 63 → both_up x i ≡ true → (d : Lead) × (noted x ls i ≡ Some d) × At d t h
-  noted-now l e = (widened (lead t h) (ls i), cond-true (both_up x i) _ (ls i) e, has-now l (ls i))
+  pub noted_now : h < 2 ^ 63 → both_up x i ≡ true → (d : Lead) × (noted x ls i ≡ Some d) × At d t h
+  noted_now l e = (widened (lead t h) (ls i), cond-true (both_up x i) _ (ls i) e, has_now l (ls i))
 
 -- within the skew, where settings are known
 pub narrow : (k : model.Settings) (s : Option model.Settings) (ls : ℕ → Option Lead) → ((j : model.Settings) → s ≡ Some j → j ≡ k) → apart s ls ≡ false →

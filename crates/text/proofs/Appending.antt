@@ -12,8 +12,8 @@ pub joined : (new mid old a b : List ℕ) → mid ≡ old ++ a → new ≡ mid +
 joined new mid old a b e f = f ∙ (ap (λ (l : List ℕ). l ++ b) e ∙ append_assoc old a b)
 
 -- two bytes are appended, and what was left began with them
-pub moved-two : (new mid old left rest : List ℕ) (h l : ℕ) → mid ≡ old ++ h ∷ [] → new ≡ mid ++ l ∷ [] → left ≡ h ∷ l ∷ rest → new ++ rest ≡ old ++ left
-moved-two new mid old left rest h l e f g = moved new old ((h ∷ []) ++ (l ∷ [])) left rest (joined new mid old (h ∷ []) (l ∷ []) e f) g
+pub moved_two : (new mid old left rest : List ℕ) (h l : ℕ) → mid ≡ old ++ h ∷ [] → new ≡ mid ++ l ∷ [] → left ≡ h ∷ l ∷ rest → new ++ rest ≡ old ++ left
+moved_two new mid old left rest h l e f g = moved new old ((h ∷ []) ++ (l ∷ [])) left rest (joined new mid old (h ∷ []) (l ∷ []) e f) g
 
 -- a part, a byte and another part are appended
 pub byte-between : (new next mid old a b : List ℕ) (n : ℕ) → mid ≡ old ++ a → next ≡ mid ++ n ∷ [] → new ≡ next ++ b → new ≡ old ++ (a ++ n ∷ b)

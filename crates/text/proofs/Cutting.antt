@@ -37,8 +37,8 @@ pieces-at end (b ∷ c ∷ bs) (suc i) h f =
 pub behind : (bs after rest : List ℕ) (b i : ℕ) → after ≡ drop i bs → after ≡ b ∷ rest → rest ≡ drop (suc i) bs
 behind bs after rest b i e f = let d : drop 1 (drop i bs) ≡ drop (i + 1) bs = drop-drop 1 i bs in ap (λ (l : List ℕ). drop 1 l) (sym f ∙ e) ∙ (d ∙ ap (λ (n : ℕ). drop n bs) (add-one i))
 
-pub behind-end : (bs after : List ℕ) (i : ℕ) → after ≡ drop i bs → length after ≡ 0 → length bs ≤ i → after ≡ drop (suc i) bs
-behind-end bs after i e f l = e ∙ (drop_all i bs l ∙ sym (drop_all (suc i) bs (omega arith)))
+pub behind_end : (bs after : List ℕ) (i : ℕ) → after ≡ drop i bs → length after ≡ 0 → length bs ≤ i → after ≡ drop (suc i) bs
+behind_end bs after i e f l = e ∙ (drop_all i bs l ∙ sym (drop_all (suc i) bs (omega arith)))
 
 pub filled-some : (w : List ℕ) (ps : List (List ℕ)) → 0 < length w → filled (w ∷ ps) ≡ w ∷ filled ps
 filled-some [] ps h = absurd (omega arith)

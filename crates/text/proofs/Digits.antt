@@ -9,8 +9,8 @@ pub last-digit : (new mid old : List ℕ) (n : ℕ) → 10 ≤ n → n < 2 ^ 64 
 last-digit new mid old n h k e f =
     e ∙ (ap (λ (l : List ℕ). l ++ (48 + n % 10) ∷ []) f ∙ (append_assoc old (decimal (n / 10)) ((48 + n % 10) ∷ []) ∙ ap (λ (l : List ℕ). old ++ l) (sym (decimal_step n h k))))
 
-pub only-digit : (new old : List ℕ) (n : ℕ) → n < 10 → new ≡ old ++ (48 + n % 10) ∷ [] → new ≡ old ++ decimal n
-only-digit new old n h e =
+pub only_digit_lem : (new old : List ℕ) (n : ℕ) → n < 10 → new ≡ old ++ (48 + n % 10) ∷ [] → new ≡ old ++ decimal n
+only_digit_lem new old n h e =
     let m : n % 10 ≡ n = omega arith in
     e ∙ (ap (λ (d : ℕ). old ++ (48 + d) ∷ []) m ∙ ap (λ (l : List ℕ). old ++ l) (sym (decimal_digit n h)))
 

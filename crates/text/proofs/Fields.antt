@@ -26,9 +26,9 @@ both x y p q = omega arith
 b8 : (bs : List ℕ) (i : ℕ) → Bytes bs → be8 bs i < 2 ^ 64
 b8 bs i b = both (be4 bs i) (be4 bs (i + 4)) (b4 bs i b) (b4 bs (i + 4) b)
 
-fault-fits : (o : Option lease.Fault) (mes : Message) → option_map m.Fault o ≡ Some mes → Fits mes
-fault-fits None mes e = absurd (let z : ◌≡◌ {A = ℕ} 0 1 = cc in omega arith)
-fault-fits (Some f) mes e = subst Fits (same_some (m.Fault f) mes e) tt
+fault_fits : (o : Option lease.Fault) (mes : Message) → option_map m.Fault o ≡ Some mes → Fits mes
+fault_fits None mes e = absurd (let z : ◌≡◌ {A = ℕ} 0 1 = cc in omega arith)
+fault_fits (Some f) mes e = subst Fits (same_some (m.Fault f) mes e) tt
 
 fits-at : (x : Kind) (bs : List ℕ) → Bytes bs → (mes : Message) → fields_at x bs ≡ Some mes → Fits mes
 fits-at k.Request bs b mes e = subst Fits (same_some _ mes e) (b4 bs 1 b, b8 bs 5 b, b2 bs 13 b)
@@ -41,13 +41,13 @@ fits-at k.OwnNumber bs b mes e = subst Fits (same_some _ mes e) (b4 bs 1 b)
 fits-at k.Nonce bs b mes e = subst Fits (same_some _ mes e) (b8 bs 1 b)
 fits-at k.InUse bs b mes e = subst Fits (same_some _ mes e) (b2 bs 1 b, b8 bs 3 b)
 fits-at k.NoAddress bs b mes e = subst Fits (same_some _ mes e) tt
-fits-at k.Fault bs b mes e = fault-fits (fault_of (get_or bs 1 0)) mes e
+fits-at k.Fault bs b mes e = fault_fits (fault_of (get_or bs 1 0)) mes e
 
-fits-as : (o : Option Kind) (bs : List ℕ) → Bytes bs → (mes : Message) → read_as o bs ≡ Some mes → Fits mes
-fits-as None bs b mes e = absurd (let z : ◌≡◌ {A = ℕ} 0 1 = cc in omega arith)
-fits-as (Some x) bs b mes e =
+fits_as_lem : (o : Option Kind) (bs : List ℕ) → Bytes bs → (mes : Message) → read_as o bs ≡ Some mes → Fits mes
+fits_as_lem None bs b mes e = absurd (let z : ◌≡◌ {A = ℕ} 0 1 = cc in omega arith)
+fits_as_lem (Some x) bs b mes e =
     cond_both (eqb (length bs) (table x).size) (fields_at x bs) None (λ q. q ≡ Some mes → Fits mes) (λ t h. fits-at x bs b mes h) (λ t h. absurd (let z : ◌≡◌ {A = ℕ} 0 1 = cc in omega arith)) e
 
 pub read_fits : (bs : List ℕ) → Bytes bs → (mes : Message) → read bs ≡ Some mes → Fits mes
 unfolding read
-read_fits bs b mes e = fits-as (kind_of (get_or bs 0 0)) bs b mes e
+read_fits bs b mes e = fits_as_lem (kind_of (get_or bs 0 0)) bs b mes e

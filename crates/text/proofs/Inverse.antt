@@ -48,9 +48,9 @@ whole-framed who n bs h o =
       left = All-drop (λ b. b < 256) n bs o.1;
     }
 
-framed-back : (who : ℕ) (bs : List ℕ) (e : Entry) (rest : List ℕ) → Octets bs → framed_first who bs ≡ whole e rest → Framed who bs e rest
-framed-back who [] e rest o h = absurd (let z : ◌≡◌ {A = ℕ} 0 1 = cc in omega arith)
-framed-back who (n ∷ bs) e rest o h =
+framed_back : (who : ℕ) (bs : List ℕ) (e : Entry) (rest : List ℕ) → Octets bs → framed_first who bs ≡ whole e rest → Framed who bs e rest
+framed_back who [] e rest o h = absurd (let z : ◌≡◌ {A = ℕ} 0 1 = cc in omega arith)
+framed_back who (n ∷ bs) e rest o h =
     cond_both (ltb (length bs) n) (broken breach.Short) (whole (entry who (take n bs)) (drop n bs)) (λ x. x ≡ whole e rest → Framed who (n ∷ bs) e rest)
     (λ t g. absurd (let z : ◌≡◌ {A = ℕ} 0 1 = cc in omega arith))
     (λ t g. subst (λ (d : Entry). Framed who (n ∷ bs) d rest) (same-entry _ e _ rest g) (subst (λ (r : List ℕ). Framed who (n ∷ bs) (entry who (take n bs)) r) (same_rest _ e _ rest g) (whole-framed who n bs (ltb-false (length bs) n t) o)))
@@ -58,14 +58,14 @@ framed-back who (n ∷ bs) e rest o h =
 
 first_back : (f : Form) (bs : List ℕ) (e : Entry) (rest : List ℕ) → Octets bs → first_entry f bs ≡ whole e rest → Begun f bs e rest
 first_back Stream bs e rest o h =
-    let g = framed-back 0 bs e rest o h in
+    let g = framed_back 0 bs e rest o h in
     record { is = g.is; good = record { party = g.same; few = g.few; octets = g.octets }; left = g.left }
 first_back Script [] e rest o h = absurd (let z : ◌≡◌ {A = ℕ} 0 1 = cc in omega arith)
 first_back Script (who ∷ bs) e rest o h =
     cond_both (ltb 64 who) (broken (breach.Party who)) (framed_first who bs) (λ x. x ≡ whole e rest → Begun Script (who ∷ bs) e rest)
     (λ t g. absurd (let z : ◌≡◌ {A = ℕ} 0 1 = cc in omega arith))
     (λ t g.
-    let r = framed-back who bs e rest o.1 g in
+    let r = framed_back who bs e rest o.1 g in
     let same = r.same in
     let low = ltb-false 64 who t in
     record { is = ap₂ (λ (a : ℕ) (l : List ℕ). a ∷ l) (sym same) r.is; good = record { party = omega arith; few = r.few; octets = r.octets }; left = r.left })
@@ -85,24 +85,24 @@ one_more f bs e rest es ds b h r =
       good = (b.good, r.good);
     }
 
-by-found : (f : Form) (bs : List ℕ) (e : Entry) (rest : List ℕ) (es : List Entry) (found : Found) → Begun f bs e rest → behind e found ≡ Ok es → ((ds : List Entry) → found ≡ Ok ds → Back f rest ds) → Back f bs es
-by-found f bs e rest es (Err x) b h go = absurd (let z : ◌≡◌ {A = ℕ} 0 1 = cc in omega arith)
-by-found f bs e rest es (Ok ds) b h go = one_more f bs e rest es ds b h (go ds refl)
+by_found : (f : Form) (bs : List ℕ) (e : Entry) (rest : List ℕ) (es : List Entry) (found : Found) → Begun f bs e rest → behind e found ≡ Ok es → ((ds : List Entry) → found ≡ Ok ds → Back f rest ds) → Back f bs es
+by_found f bs e rest es (Err x) b h go = absurd (let z : ◌≡◌ {A = ℕ} 0 1 = cc in omega arith)
+by_found f bs e rest es (Ok ds) b h go = one_more f bs e rest es ds b h (go ds refl)
 
 by_first : (t : ℕ) (f : Form) (bs : List ℕ) (es : List Entry) (x : First) → first_entry f bs ≡ x → Octets bs → length (rest_of x) ≤ t → from_first (length bs) x (entries_by t f (rest_of x)) ≡ Ok es → ((rest : List ℕ) (ds : List Entry) → length rest ≤ t → Octets rest → entries_by t f rest ≡ Ok ds → Back f rest ds) → Back f bs es
 by_first t f bs es (broken b) g o l h go = absurd (let z : ◌≡◌ {A = ℕ} 0 1 = cc in omega arith)
 by_first t f bs es (whole e rest) g o l h go =
     let b = first_back f bs e rest o g in
-    by-found f bs e rest es (entries_by t f rest) b h (λ ds d. go rest ds l b.left d)
+    by_found f bs e rest es (entries_by t f rest) b h (λ ds d. go rest ds l b.left d)
 
-pub entries-back : (t : ℕ) (f : Form) (bs : List ℕ) (es : List Entry) → length bs ≤ t → Octets bs → entries_by t f bs ≡ Ok es → Back f bs es
+pub entries_back : (t : ℕ) (f : Form) (bs : List ℕ) (es : List Entry) → length bs ≤ t → Octets bs → entries_by t f bs ≡ Ok es → Back f bs es
 unfolding entries_by
-entries-back t f [] es l o h = subst (λ (x : List Entry). Back f [] x) (same_ok [] es h) record { same = refl; good = tt }
-entries-back zero f (b ∷ bs) es l o h = absurd (omega arith)
-entries-back (suc t) f (b ∷ bs) es l o h =
+entries_back t f [] es l o h = subst (λ (x : List Entry). Back f [] x) (same_ok [] es h) record { same = refl; good = tt }
+entries_back zero f (b ∷ bs) es l o h = absurd (omega arith)
+entries_back (suc t) f (b ∷ bs) es l o h =
     let s = shrinks f (b ∷ bs) (omega arith) in
-    by_first t f (b ∷ bs) es (first_entry f (b ∷ bs)) refl o (omega arith) h (λ rest ds m p d. entries-back t f rest ds m p d)
+    by_first t f (b ∷ bs) es (first_entry f (b ∷ bs)) refl o (omega arith) h (λ rest ds m p d. entries_back t f rest ds m p d)
 
 pub back : (f : Form) (bs : List ℕ) (es : List Entry) → Octets bs → entries f bs ≡ Ok es → Back f bs es
 unfolding entries
-back f bs es o h = entries-back (length bs) f bs es (omega arith) o h
+back f bs es o h = entries_back (length bs) f bs es (omega arith) o h

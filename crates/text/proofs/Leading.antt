@@ -16,8 +16,8 @@ use Rattle.text.specs.Pieces.{space}
 use Rattle.text.specs.Speech.{Words, word, absent, speech_of}
 use Rattle.text.specs.Told.{spaced, lead_text}
 use Rattle.text.specs.Verb.{verb_of}
-use Rattle.text.proofs.Numerals.{fair-decimal}
-use Rattle.text.proofs.Saying.{Says, In, figure-back, absent-some}
+use Rattle.text.proofs.Numerals.{fair_decimal}
+use Rattle.text.proofs.Saying.{Says, In, figure_back, absent-some}
 use Rattle.text.proofs.Spelling.{Fair, Fairs}
 
 abbrev pub lead-words : Form → ℕ → Words
@@ -41,27 +41,27 @@ by_name who v args verb bs false z p fair e says =
     let some : who ≡ 0 → ⊥ = eqb-false who 0 z in
     let i : In field.Party who = record { least = omega arith; most = p; fits = omega arith } in
     let (s, g, h) = says 3 ws refl in
-    begun Script ws who 2 verb s bs refl (ap boxed (figure-back field.Party 1 who ws refl i)) e g h
+    begun Script ws who 2 verb s bs refl (ap boxed (figure_back field.Party 1 who ws refl i)) e g h
 
-pub line-back : (f : Form) (who : ℕ) (v : List ℕ) (args : Words) (verb : Verb) (bs : List ℕ) → Party f who → Fair v → verb_of v ≡ Some verb → Says f who verb args bs → line_bytes f (lead-words f who ++ v ∷ args) ≡ Ok bs
-line-back Stream who v args verb bs p fair e says =
+pub line_back : (f : Form) (who : ℕ) (v : List ℕ) (args : Words) (verb : Verb) (bs : List ℕ) → Party f who → Fair v → verb_of v ≡ Some verb → Says f who verb args bs → line_bytes f (lead-words f who ++ v ∷ args) ≡ Ok bs
+line_back Stream who v args verb bs p fair e says =
     let ws : Words = v ∷ args in
     let (s, g, h) = subst (λ (w : ℕ). Says Stream w verb args bs) p says 1 ws refl in
     begun Stream ws 0 0 verb s bs (absent-some 0 ws v refl fair.some) refl e g h
-line-back Script who v args verb bs p fair e says = by_name who v args verb bs (eqb who 0) refl p fair e says
+line_back Script who v args verb bs p fair e says = by_name who v args verb bs (eqb who 0) refl p fair e says
 
-spaced-by : (who : ℕ) (v : List ℕ) (args : Words) (b : Bool) → cond b (codes "house ") (codes "box " ++ (decimal who ++ space ∷ [])) ++ spaced (v ∷ args) ≡ spaced (cond b (codes "house" ∷ []) (codes "box" ∷ decimal who ∷ []) ++ v ∷ args)
-spaced-by who v args true = refl
-spaced-by who v args false = ap (λ (l : List ℕ). codes "box " ++ l) (append_assoc (decimal who) (space ∷ []) (spaced (v ∷ args)))
+spaced_by : (who : ℕ) (v : List ℕ) (args : Words) (b : Bool) → cond b (codes "house ") (codes "box " ++ (decimal who ++ space ∷ [])) ++ spaced (v ∷ args) ≡ spaced (cond b (codes "house" ∷ []) (codes "box" ∷ decimal who ∷ []) ++ v ∷ args)
+spaced_by who v args true = refl
+spaced_by who v args false = ap (λ (l : List ℕ). codes "box " ++ l) (append_assoc (decimal who) (space ∷ []) (spaced (v ∷ args)))
 
-pub line-spaced : (f : Form) (who : ℕ) (v : List ℕ) (args : Words) → lead_text f who ++ spaced (v ∷ args) ≡ spaced (lead-words f who ++ v ∷ args)
-line-spaced Stream who v args = refl
-line-spaced Script who v args = spaced-by who v args (eqb who 0)
+pub line_spaced : (f : Form) (who : ℕ) (v : List ℕ) (args : Words) → lead_text f who ++ spaced (v ∷ args) ≡ spaced (lead-words f who ++ v ∷ args)
+line_spaced Stream who v args = refl
+line_spaced Script who v args = spaced_by who v args (eqb who 0)
 
-fairs-by : (who : ℕ) (ws : Words) (b : Bool) → who ≤ 64 → Fairs ws → Fairs (cond b (codes "house" ∷ []) (codes "box" ∷ decimal who ∷ []) ++ ws)
-fairs-by who ws true p f = (record { plain = refl; some = omega arith }, f)
-fairs-by who ws false p f = (record { plain = refl; some = omega arith }, (fair-decimal who (omega arith), f))
+fairs_by : (who : ℕ) (ws : Words) (b : Bool) → who ≤ 64 → Fairs ws → Fairs (cond b (codes "house" ∷ []) (codes "box" ∷ decimal who ∷ []) ++ ws)
+fairs_by who ws true p f = (record { plain = refl; some = omega arith }, f)
+fairs_by who ws false p f = (record { plain = refl; some = omega arith }, (fair_decimal who (omega arith), f))
 
-pub line-fair : (f : Form) (who : ℕ) (ws : Words) → Party f who → Fairs ws → Fairs (lead-words f who ++ ws)
-line-fair Stream who ws p f = f
-line-fair Script who ws p f = fairs-by who ws (eqb who 0) p f
+pub line_fair : (f : Form) (who : ℕ) (ws : Words) → Party f who → Fairs ws → Fairs (lead-words f who ++ ws)
+line_fair Stream who ws p f = f
+line_fair Script who ws p f = fairs_by who ws (eqb who 0) p f

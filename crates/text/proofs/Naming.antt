@@ -15,26 +15,26 @@ pub passed : (word n : List ℕ) (i : ℕ) (d : Kind) → i < length kinds → n
 passed word n i d h e f =
     sym (at_drop_more (named word) kinds i d h ∙ cond-false (bytes_eq (name (get_or kinds i d)) word) (Some (get_or kinds i d)) (named word (drop (i + 1) kinds)) (ap (λ (l : List ℕ). bytes_eq l word) (sym e) ∙ sym f))
 
-pub verb-back : (k : Kind) → verb_of (name k) ≡ Some (verb.Say k)
-verb-back Settings = refl
-verb-back Number = refl
-verb-back Nonce = refl
-verb-back Request = refl
-verb-back Grant = refl
-verb-back Crash = refl
-verb-back Restart = refl
-verb-back InUse = refl
-verb-back NoAddress = refl
-verb-back Fault = refl
+pub verb_back : (k : Kind) → verb_of (name k) ≡ Some (verb.Say k)
+verb_back Settings = refl
+verb_back Number = refl
+verb_back Nonce = refl
+verb_back Request = refl
+verb_back Grant = refl
+verb_back Crash = refl
+verb_back Restart = refl
+verb_back InUse = refl
+verb_back NoAddress = refl
+verb_back Fault = refl
 
-pub fair-name : (k : Kind) → Fair (name k)
-fair-name Settings = record { plain = refl; some = omega arith }
-fair-name Number = record { plain = refl; some = omega arith }
-fair-name Nonce = record { plain = refl; some = omega arith }
-fair-name Request = record { plain = refl; some = omega arith }
-fair-name Grant = record { plain = refl; some = omega arith }
-fair-name Crash = record { plain = refl; some = omega arith }
-fair-name Restart = record { plain = refl; some = omega arith }
-fair-name InUse = record { plain = refl; some = omega arith }
-fair-name NoAddress = record { plain = refl; some = omega arith }
-fair-name Fault = record { plain = refl; some = omega arith }
+pub fair_name : (k : Kind) → Fair (name k)
+fair_name Settings = record { plain = refl; some = omega arith }
+fair_name Number = record { plain = refl; some = omega arith }
+fair_name Nonce = record { plain = refl; some = omega arith }
+fair_name Request = record { plain = refl; some = omega arith }
+fair_name Grant = record { plain = refl; some = omega arith }
+fair_name Crash = record { plain = refl; some = omega arith }
+fair_name Restart = record { plain = refl; some = omega arith }
+fair_name InUse = record { plain = refl; some = omega arith }
+fair_name NoAddress = record { plain = refl; some = omega arith }
+fair_name Fault = record { plain = refl; some = omega arith }

@@ -26,7 +26,7 @@ use Rattle.text.specs.Line.{speech_bytes}
 use Rattle.text.specs.Sentence.{figures, message_of}
 use Rattle.text.specs.Speech.{Words, word, absent, mistake, ranged, figure_at, figure_if, all, ended, told, concluded, repeating, speech_of}
 use Rattle.text.proofs.Nibbles.{Hexed, hexed}
-use Rattle.text.proofs.Numerals.{number-back, fair-decimal}
+use Rattle.text.proofs.Numerals.{number_back, fair_decimal}
 
 -- behind a verb, wherever these words stand, they say these bytes
 abbrev pub Says : Form → ℕ → Verb → Words → List ℕ → Type 0
@@ -50,49 +50,49 @@ pub record In (x : Field) (n : ℕ) : Type 0 where
   pub most : n ≤ (range x).most
   pub fits : n < 2 ^ 64
 
-pub figure-back : (x : Field) (place n : ℕ) (ws : Words) → word place ws ≡ decimal n → In x n → figure_at x place ws ≡ Ok n
-figure-back x place n ws e i =
+pub figure_back : (x : Field) (place n : ℕ) (ws : Words) → word place ws ≡ decimal n → In x n → figure_at x place ws ≡ Ok n
+figure_back x place n ws e i =
     ap (λ (w : List ℕ). ranged x place (number_of (range x).most w)) e
-    ∙ (ap (λ (o : Option ℕ). ranged x place o) (number-back (range x).most n i.most i.fits) ∙ cond-false (ltb n (range x).least) _ (Ok n) (le-ltb n (range x).least i.least))
+    ∙ (ap (λ (o : Option ℕ). ranged x place o) (number_back (range x).most n i.most i.fits) ∙ cond-false (ltb n (range x).least) _ (Ok n) (le-ltb n (range x).least i.least))
 
-ended-back : (place : ℕ) (ws : Words) (r : Result Speech Mistake) → word place ws ≡ [] → ended place ws r ≡ r
-ended-back place ws r e = cond-true (absent place ws) r (Err (mistake Nothing place)) (absent_none place ws e)
+ended_back : (place : ℕ) (ws : Words) (r : Result Speech Mistake) → word place ws ≡ [] → ended place ws r ≡ r
+ended_back place ws r e = cond-true (absent place ws) r (Err (mistake Nothing place)) (absent_none place ws e)
 
-tick-by : (f : Form) (who n : ℕ) (b : Bool) → eqb n 1 ≡ b → 1 ≤ n → n ≤ 1000000 → Says f who verb.Tick (cond b [] (decimal n ∷ [])) (copies n (entry_bytes f who (encoded m.Tick)))
-tick-by f who n true h l k q ws e =
+tick_by : (f : Form) (who n : ℕ) (b : Bool) → eqb n 1 ≡ b → 1 ≤ n → n ≤ 1000000 → Says f who verb.Tick (cond b [] (decimal n ∷ [])) (copies n (entry_bytes f who (encoded m.Tick)))
+tick_by f who n true h l k q ws e =
     (Ticks 1, cond-true (absent q ws) (Ok (Ticks 1)) (repeating q ws (figure_at Times q ws)) (absent_none q ws (word_first q ws [] e)), ap (λ (x : ℕ). copies x (entry_bytes f who (encoded m.Tick))) (sym (eqb-true n 1 h)))
-tick-by f who n false h l k q ws e =
+tick_by f who n false h l k q ws e =
     let i : In Times n = record { least = l; most = k; fits = omega arith } in
     let first : word q ws ≡ decimal n = word_first q ws (decimal n ∷ []) e in (
       Ticks n,
-      cond-false (absent q ws) (Ok (Ticks 1)) (repeating q ws (figure_at Times q ws)) (absent-some q ws (decimal n) first (fair-decimal n i.fits).some)
-          ∙ (ap (λ (r : Result ℕ Mistake). repeating q ws r) (figure-back Times q n ws first i) ∙ ended-back (q + 1) ws (Ok (Ticks n)) (word_at q 1 ws (decimal n ∷ []) e)),
+      cond-false (absent q ws) (Ok (Ticks 1)) (repeating q ws (figure_at Times q ws)) (absent-some q ws (decimal n) first (fair_decimal n i.fits).some)
+          ∙ (ap (λ (r : Result ℕ Mistake). repeating q ws r) (figure_back Times q n ws first i) ∙ ended_back (q + 1) ws (Ok (Ticks n)) (word_at q 1 ws (decimal n ∷ []) e)),
       refl,
     )
 
-pub tick-says : (f : Form) (who n : ℕ) → 1 ≤ n → n ≤ 1000000 → Says f who verb.Tick (cond (eqb n 1) [] (decimal n ∷ [])) (copies n (entry_bytes f who (encoded m.Tick)))
-tick-says f who n l k = tick-by f who n (eqb n 1) refl l k
+pub tick_says : (f : Form) (who n : ℕ) → 1 ≤ n → n ≤ 1000000 → Says f who verb.Tick (cond (eqb n 1) [] (decimal n ∷ [])) (copies n (entry_bytes f who (encoded m.Tick)))
+tick_says f who n l k = tick_by f who n (eqb n 1) refl l k
 
-raw-at-place : (f : Form) (who : ℕ) (mes : List ℕ) (q : ℕ) (ws : Words) → Hexed mes → length mes ≤ 255 → word q ws ≡ written mes → word (q + 1) ws ≡ [] → (s : Speech) × (speech_of verb.Bytes q ws ≡ Ok s) × (speech_bytes f who ws s ≡ entry_bytes f who mes)
-raw-at-place f who mes q ws x l e z =
+raw_at-place : (f : Form) (who : ℕ) (mes : List ℕ) (q : ℕ) (ws : Words) → Hexed mes → length mes ≤ 255 → word q ws ≡ written mes → word (q + 1) ws ≡ [] → (s : Speech) × (speech_of verb.Bytes q ws ≡ Ok s) × (speech_bytes f who ws s ≡ entry_bytes f who mes)
+raw_at-place f who mes q ws x l e z =
     let t = x.twice in
     let half : length (written mes) / 2 ≡ length mes = omega arith in
     let small : length (written mes) ≤ 510 = omega arith in (
       Raw q (length (word q ws) / 2),
       cond-false (ltb 510 (length (word q ws))) _ _ (ap (λ (w : List ℕ). ltb 510 (length w)) e ∙ le-ltb 510 (length (written mes)) small)
-          ∙ (cond-true (pairs (word q ws)) _ _ (ap pairs e ∙ x.pairs) ∙ ended-back (q + 1) ws (Ok (Raw q (length (word q ws) / 2))) z),
+          ∙ (cond-true (pairs (word q ws)) _ _ (ap pairs e ∙ x.pairs) ∙ ended_back (q + 1) ws (Ok (Raw q (length (word q ws) / 2))) z),
       ap₂ (λ (n : ℕ) (bs : List ℕ). head f who ++ n ∷ bs) (ap (λ (w : List ℕ). length w / 2) e ∙ half) (ap meant e ∙ x.meant),
     )
 
-raw-by : (f : Form) (who : ℕ) (mes : List ℕ) (b : Bool) → eqb (length mes) 0 ≡ b → AllByRecursion (λ x. x < 256) mes → length mes ≤ 255 → Says f who verb.Bytes (cond b [] (written mes ∷ [])) (entry_bytes f who mes)
-raw-by f who mes true h a l q ws e =
+raw_by : (f : Form) (who : ℕ) (mes : List ℕ) (b : Bool) → eqb (length mes) 0 ≡ b → AllByRecursion (λ x. x < 256) mes → length mes ≤ 255 → Says f who verb.Bytes (cond b [] (written mes ∷ [])) (entry_bytes f who mes)
+raw_by f who mes true h a l q ws e =
     let nil : mes ≡ [] = nil_from_length mes (eqb-true (length mes) 0 h) in
-    raw-at-place f who mes q ws (hexed mes a) l (word_first q ws [] e ∙ ap written (sym nil)) (word_at q 1 ws [] e)
-raw-by f who mes false h a l q ws e =
-    raw-at-place f who mes q ws (hexed mes a) l (word_first q ws (written mes ∷ []) e) (word_at q 1 ws (written mes ∷ []) e)
+    raw_at-place f who mes q ws (hexed mes a) l (word_first q ws [] e ∙ ap written (sym nil)) (word_at q 1 ws [] e)
+raw_by f who mes false h a l q ws e =
+    raw_at-place f who mes q ws (hexed mes a) l (word_first q ws (written mes ∷ []) e) (word_at q 1 ws (written mes ∷ []) e)
 
-pub raw-says : (f : Form) (who : ℕ) (mes : List ℕ) → AllByRecursion (λ x. x < 256) mes → length mes ≤ 255 → Says f who verb.Bytes (cond (eqb (length mes) 0) [] (written mes ∷ [])) (entry_bytes f who mes)
-raw-says f who mes a l = raw-by f who mes (eqb (length mes) 0) refl a l
+pub raw_says : (f : Form) (who : ℕ) (mes : List ℕ) → AllByRecursion (λ x. x < 256) mes → length mes ≤ 255 → Says f who verb.Bytes (cond (eqb (length mes) 0) [] (written mes ∷ [])) (entry_bytes f who mes)
+raw_says f who mes a l = raw_by f who mes (eqb (length mes) 0) refl a l
 
 all_back : (p q r : Result ℕ Mistake) (a b c : ℕ) → p ≡ Ok a → q ≡ Ok b → r ≡ Ok c → all p q r ≡ Ok (figures a b c)
 all_back p q r a b c e f g =
@@ -105,11 +105,11 @@ pub record Stand (k : Kind) (a b c : ℕ) (q : ℕ) (ws : Words) : Type 0 where
   pub third : figure_if (fields k).third (q + 2) ws ≡ Ok c
   pub last : word (q + count k) ws ≡ []
 
-pub said-by : (k : Kind) (a b c : ℕ) (mes : Message) (f : Form) (who : ℕ) (args : Words) → ((q : ℕ) (ws : Words) → drop q ws ≡ args → Stand k a b c q ws) → message_of k (figures a b c) ≡ Some mes → Says f who (verb.Say k) args (entry_bytes f who (encoded mes))
-said-by k a b c mes f who args h e q ws d =
+pub said_by : (k : Kind) (a b c : ℕ) (mes : Message) (f : Form) (who : ℕ) (args : Words) → ((q : ℕ) (ws : Words) → drop q ws ≡ args → Stand k a b c q ws) → message_of k (figures a b c) ≡ Some mes → Says f who (verb.Say k) args (entry_bytes f who (encoded mes))
+said_by k a b c mes f who args h e q ws d =
     let s = h q ws d in (
       Say mes,
       ap (λ (x : Result Figures Mistake). concluded k q ws x) (all_back _ _ _ a b c s.first s.second s.third)
-          ∙ (ended-back (q + count k) ws (told q (message_of k (figures a b c))) s.last ∙ ap (told q) e),
+          ∙ (ended_back (q + count k) ws (told q (message_of k (figures a b c))) s.last ∙ ap (told q) e),
       refl,
     )

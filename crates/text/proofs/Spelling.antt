@@ -30,25 +30,25 @@ plain_push (c ∷ w) b h k =
     let p = and_parts (ltb 35 c) (plainly w) h in
     and_from (ltb 35 c) (plainly (w ++ b ∷ [])) p.0 (plain_push w b p.1 k)
 
-plain-free : (end : ℕ) (w : List ℕ) → end ≤ 35 → plainly w ≡ true → Free end w
-plain-free end [] h p = tt
-plain-free end (b ∷ w) h p =
+plain_free : (end : ℕ) (w : List ℕ) → end ≤ 35 → plainly w ≡ true → Free end w
+plain_free end [] h p = tt
+plain_free end (b ∷ w) h p =
     let q = and_parts (ltb 35 b) (plainly w) p in
     let l : 35 < b = ltb-true 35 b q.0 in
-    (λ e. omega arith, plain-free end w h q.1)
+    (λ e. omega arith, plain_free end w h q.1)
 
-free-append : (end : ℕ) (xs ys : List ℕ) → Free end xs → Free end ys → Free end (xs ++ ys)
-free-append end [] ys p q = q
-free-append end (x ∷ xs) ys p q = (p.0, free-append end xs ys p.1 q)
+free_append : (end : ℕ) (xs ys : List ℕ) → Free end xs → Free end ys → Free end (xs ++ ys)
+free_append end [] ys p q = q
+free_append end (x ∷ xs) ys p q = (p.0, free_append end xs ys p.1 q)
 
 free-trailed : (end : ℕ) (ws : Words) → end ≤ 35 → (end ≡ space → ⊥) → Fairs ws → Free end (trailed ws)
 free-trailed end [] h n f = tt
 free-trailed end (w ∷ ws) h n f =
-    (λ e. n (sym e), free-append end w (trailed ws) (plain-free end w h f.0.plain) (free-trailed end ws h n f.1))
+    (λ e. n (sym e), free_append end w (trailed ws) (plain_free end w h f.0.plain) (free-trailed end ws h n f.1))
 
 free-spaced : (end : ℕ) (ws : Words) → end ≤ 35 → (end ≡ space → ⊥) → Fairs ws → Free end (spaced ws)
 free-spaced end [] h n f = tt
-free-spaced end (w ∷ ws) h n f = free-append end w (trailed ws) (plain-free end w h f.0.plain) (free-trailed end ws h n f.1)
+free-spaced end (w ∷ ws) h n f = free_append end w (trailed ws) (plain_free end w h f.0.plain) (free-trailed end ws h n f.1)
 
 pieces-word : (end : ℕ) (w rest : List ℕ) → Free end w → pieces end (w ++ end ∷ rest) ≡ w ∷ pieces end rest
 pieces-word end [] rest p = cond-true (eqb end end) ([] ∷ pieces end rest) (onto end (pieces end rest)) (eq-eqb end end refl)
@@ -69,18 +69,18 @@ before-free end (b ∷ w) p =
 pieces-spaced : (ws : Words) → Fairs ws → pieces space (spaced ws) ≡ ws
 pieces-spaced [] f = refl
 pieces-spaced (w ∷ []) f =
-    ap (λ (l : List ℕ). pieces space l) (append-nil w) ∙ pieces-last space w (plain-free space w (omega arith) f.0.plain) f.0.some
+    ap (λ (l : List ℕ). pieces space l) (append-nil w) ∙ pieces-last space w (plain_free space w (omega arith) f.0.plain) f.0.some
 pieces-spaced (w ∷ v ∷ ws) f =
-    pieces-word space w (spaced (v ∷ ws)) (plain-free space w (omega arith) f.0.plain) ∙ ap (λ (l : Words). w ∷ l) (pieces-spaced (v ∷ ws) f.1)
+    pieces-word space w (spaced (v ∷ ws)) (plain_free space w (omega arith) f.0.plain) ∙ ap (λ (l : Words). w ∷ l) (pieces-spaced (v ∷ ws) f.1)
 
-filled-fair : (ws : Words) → Fairs ws → filled ws ≡ ws
-filled-fair [] f = refl
-filled-fair (w ∷ ws) f = filled-some w ws f.0.some ∙ ap (λ (l : Words). w ∷ l) (filled-fair ws f.1)
+filled_fair : (ws : Words) → Fairs ws → filled ws ≡ ws
+filled_fair [] f = refl
+filled_fair (w ∷ ws) f = filled-some w ws f.0.some ∙ ap (λ (l : Words). w ∷ l) (filled_fair ws f.1)
 
 pub words-spaced : (ws : Words) → Fairs ws → words (spaced ws) ≡ ws
 words-spaced ws f =
     ap (λ (l : List ℕ). filled (pieces space l)) (before-free comment (spaced ws) (free-spaced comment ws (omega arith) (λ e. omega arith) f))
-    ∙ (ap filled (pieces-spaced ws f) ∙ filled-fair ws f)
+    ∙ (ap filled (pieces-spaced ws f) ∙ filled_fair ws f)
 
-pub line-cut : (ws : Words) (rest : List ℕ) → Fairs ws → lines (spaced ws ++ newline ∷ rest) ≡ spaced ws ∷ lines rest
-line-cut ws rest f = pieces-word newline (spaced ws) rest (free-spaced newline ws (omega arith) (λ e. omega arith) f)
+pub line_cut : (ws : Words) (rest : List ℕ) → Fairs ws → lines (spaced ws ++ newline ∷ rest) ≡ spaced ws ∷ lines rest
+line_cut ws rest f = pieces-word newline (spaced ws) rest (free-spaced newline ws (omega arith) (λ e. omega arith) f)

@@ -7,21 +7,21 @@ use Rattle.text.specs.declared.form.Form.TheVariants.{Script, Stream}
 use Rattle.text.specs.Entries.{Entry, entry, First, Found, framed_first, first_entry, rest_of, from_first, entries_by, entries}
 use Rattle.text.specs.Entries.First.{whole, broken}
 
-framed-less : (who : ℕ) (bs : List ℕ) → 0 < length bs → length (rest_of (framed_first who bs)) < length bs
-framed-less who [] h = absurd (omega arith)
-framed-less who (n ∷ bs) h =
+framed_less : (who : ℕ) (bs : List ℕ) → 0 < length bs → length (rest_of (framed_first who bs)) < length bs
+framed_less who [] h = absurd (omega arith)
+framed_less who (n ∷ bs) h =
     let d = length-drop n bs in
     cond_both (ltb (length bs) n) (broken Short) (whole (entry who (take n bs)) (drop n bs)) (λ x. length (rest_of x) < suc (length bs)) (λ e. omega arith) (λ e. omega arith)
 
-framed-le : (who : ℕ) (bs : List ℕ) → length (rest_of (framed_first who bs)) ≤ length bs
-framed-le who [] = omega arith
-framed-le who (n ∷ bs) = let l = framed-less who (n ∷ bs) (omega arith) in omega arith
+framed_le : (who : ℕ) (bs : List ℕ) → length (rest_of (framed_first who bs)) ≤ length bs
+framed_le who [] = omega arith
+framed_le who (n ∷ bs) = let l = framed_less who (n ∷ bs) (omega arith) in omega arith
 
 pub shrinks : (f : Form) (bs : List ℕ) → 0 < length bs → length (rest_of (first_entry f bs)) < length bs
-shrinks Stream bs h = framed-less 0 bs h
+shrinks Stream bs h = framed_less 0 bs h
 shrinks Script [] h = absurd (omega arith)
 shrinks Script (who ∷ bs) h =
-    let l = framed-le who bs in
+    let l = framed_le who bs in
     cond_both (ltb 64 who) (broken (Party who)) (framed_first who bs) (λ x. length (rest_of x) < suc (length bs)) (λ e. omega arith) (λ e. omega arith)
 
 -- more turns than bytes change nothing
@@ -48,5 +48,5 @@ entries-first f (b ∷ bs) h =
 pub by_first : (f : Form) (bs : List ℕ) (x : First) → 0 < length bs → x ≡ first_entry f bs → entries f bs ≡ from_first (length bs) x (entries f (rest_of x))
 by_first f bs x h e = entries-first f bs h ∙ ap (λ (y : First). from_first (length bs) y (entries f (rest_of y))) (sym e)
 
-pub rest-less : (f : Form) (bs : List ℕ) (e : Entry) (rest : List ℕ) → 0 < length bs → whole e rest ≡ first_entry f bs → length rest < length bs
-rest-less f bs e rest h w = subst (λ (x : First). length (rest_of x) < length bs) (sym w) (shrinks f bs h)
+pub rest_less : (f : Form) (bs : List ℕ) (e : Entry) (rest : List ℕ) → 0 < length bs → whole e rest ≡ first_entry f bs → length rest < length bs
+rest_less f bs e rest h w = subst (λ (x : First). length (rest_of x) < length bs) (sym w) (shrinks f bs h)

@@ -17,16 +17,16 @@ use Rattle.text.proofs.Appending.{joined, three}
 abbrev onto : List ℕ → List ℕ → List ℕ
 onto old l = old ++ l
 
-pub trailed-append : (vs ws : Words) → trailed (vs ++ ws) ≡ trailed vs ++ trailed ws
-trailed-append [] ws = refl
-trailed-append (v ∷ vs) ws =
-    ap (λ (l : List ℕ). space ∷ v ++ l) (trailed-append vs ws) ∙ ap (λ (l : List ℕ). space ∷ l) (sym (append_assoc v (trailed vs) (trailed ws)))
+pub trailed_append : (vs ws : Words) → trailed (vs ++ ws) ≡ trailed vs ++ trailed ws
+trailed_append [] ws = refl
+trailed_append (v ∷ vs) ws =
+    ap (λ (l : List ℕ). space ∷ v ++ l) (trailed_append vs ws) ∙ ap (λ (l : List ℕ). space ∷ l) (sym (append_assoc v (trailed vs) (trailed ws)))
 
 pub one_word : (new mid old w : List ℕ) → mid ≡ old ++ space ∷ [] → new ≡ mid ++ w → new ≡ old ++ trailed (w ∷ [])
 one_word new mid old w e f = joined new mid old (space ∷ []) w e f ∙ ap (λ (l : List ℕ). old ++ space ∷ l) (sym (append-nil w))
 
-pub figure-shown : (new mid old : List ℕ) (field : Option Field) (f : Field) (n : ℕ) → field ≡ Some f → mid ≡ old ++ space ∷ [] → new ≡ mid ++ decimal n → new ≡ old ++ trailed (figure_words field n)
-figure-shown new mid old field f n s e g =
+pub figure_shown : (new mid old : List ℕ) (field : Option Field) (f : Field) (n : ℕ) → field ≡ Some f → mid ≡ old ++ space ∷ [] → new ≡ mid ++ decimal n → new ≡ old ++ trailed (figure_words field n)
+figure_shown new mid old field f n s e g =
     one_word new mid old (decimal n) e g ∙ ap (λ (o : Option Field). old ++ trailed (figure_words o n)) (sym s)
 
 pub lead-shown : (new b a old : List ℕ) (f : Form) (who : ℕ) → f ≡ Script → (who ≡ 0 → ⊥) → a ≡ old ++ codes "box " → b ≡ a ++ decimal who → new ≡ b ++ space ∷ [] → new ≡ old ++ lead_text f who
@@ -40,8 +40,8 @@ ticks-shown new mid old n z e g =
     joined new mid old (codes "tick") (trailed (decimal n ∷ [])) e g
     ∙ ap (λ (ws : Words). old ++ (codes "tick" ++ trailed ws)) (sym (cond-false (eqb n 1) [] (decimal n ∷ []) (ne_eqb n 1 z)))
 
-pub raw-shown : (new b a old m : List ℕ) → false ≡ eqb (length m) 0 → a ≡ old ++ codes "bytes" → b ≡ a ++ space ∷ [] → new ≡ b ++ written m → new ≡ old ++ spaced (raw_words m)
-raw-shown new b a old m z e g h =
+pub raw_shown : (new b a old m : List ℕ) → false ≡ eqb (length m) 0 → a ≡ old ++ codes "bytes" → b ≡ a ++ space ∷ [] → new ≡ b ++ written m → new ≡ old ++ spaced (raw_words m)
+raw_shown new b a old m z e g h =
     joined new a old (codes "bytes") (trailed (written m ∷ [])) e (one_word new b a (written m) g h)
     ∙ ap (λ (ws : Words). old ++ (codes "bytes" ++ trailed ws)) (sym (cond-false (eqb (length m) 0) [] (written m ∷ []) (sym z)))
 
@@ -55,4 +55,4 @@ said-shown new c b a old s n x y z p q r t e f g h =
     let g' : c ≡ b ++ trailed v = g ∙ ap (λ (o : Option Field). b ++ trailed (figure_words o s.figures.second)) r in
     let h' : new ≡ c ++ trailed w = h ∙ ap (λ (o : Option Field). c ++ trailed (figure_words o s.figures.third)) t in
     joined new a old (name s.kind) (trailed u ++ (trailed v ++ trailed w)) e' (three new c b a (trailed u) (trailed v) (trailed w) f' g' h')
-    ∙ ap (λ (l : List ℕ). old ++ (name s.kind ++ l)) (ap (onto (trailed u)) (sym (trailed-append v w)) ∙ sym (trailed-append u (v ++ w)))
+    ∙ ap (λ (l : List ℕ). old ++ (name s.kind ++ l)) (ap (onto (trailed u)) (sym (trailed_append v w)) ∙ sym (trailed_append u (v ++ w)))

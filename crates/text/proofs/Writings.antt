@@ -26,8 +26,8 @@ pub entry-written : (f : Form) (total : ℕ) (out new bs rest : List ℕ) (r nex
 entry-written f total out new bs rest r next e l w g h =
     ap (λ (x : Found). writing f total out r x) (by_first f bs (whole e rest) l w) ∙ put f total out new r next e (entries f rest) g h
 
-pub entry-refused : (f : Form) (total : ℕ) (out bs : List ℕ) (r : Run) (b : Breach) → 0 < length bs → broken b ≡ first_entry f bs → writing f total out r (entries f bs) ≡ Err (Entry (total - length bs) b)
-entry-refused f total out bs r b l w = ap (λ (x : Found). writing f total out r x) (by_first f bs (broken b) l w)
+pub entry_refused : (f : Form) (total : ℕ) (out bs : List ℕ) (r : Run) (b : Breach) → 0 < length bs → broken b ≡ first_entry f bs → writing f total out r (entries f bs) ≡ Err (Entry (total - length bs) b)
+entry_refused f total out bs r b l w = ap (λ (x : Found). writing f total out r x) (by_first f bs (broken b) l w)
 
 pub all-written : (f : Form) (total : ℕ) (out bs : List ℕ) (r : Run) → bs ≡ [] → writing f total out r (entries f bs) ≡ Ok (out ++ run_text f r)
 all-written f total out bs r e =

@@ -1,6 +1,6 @@
 ghost use Rattle.std.specs.Prelude.{◌≡◌};
 ghost use Rattle.text.specs.Kind.{name as kind-name, kind_of, fields as kind-fields, count as kind-count};
-ghost use Rattle.text.specs.Verb.{name as verb-name, verb_of};
+ghost use Rattle.text.specs.Verb.{name as verb_name, verb_of};
 
 use crate::field::Field;
 use crate::piece::same;
@@ -122,7 +122,7 @@ impl Kind {
 
 impl Verb {
     pub fn name(self) -> &'static [u8]
-        ensures { result.now ≡ verb-name self }
+        ensures { result.now ≡ verb_name self }
     {
         match self {
             Verb::Tick => b"tick",

@@ -1,6 +1,6 @@
 ghost use Rattle.std.specs.Prelude.{◌≡◌};
 ghost use Rattle.text.specs.Kind.{fields as kind-fields};
-ghost use Rattle.text.specs.Sentence.{Fitting, message_of, said, say as say-so, spoken_of};
+ghost use Rattle.text.specs.Sentence.{Fitting, message_of, said, say as say_so, spoken_of};
 
 use crate::kind::Kind;
 use lease::{Grant, Request};
@@ -30,7 +30,7 @@ pub enum Spoken {
 }
 
 fn say(kind: Kind, first: u64, second: u64, third: u64) -> Spoken
-    ensures { result ≡ say-so kind first second third }
+    ensures { result ≡ say_so kind first second third }
 {
     let figures = Figures {
         first,

@@ -17,18 +17,18 @@ use Rattle.wire.specs.Message.{kind, fields, encoded}
 use Rattle.wire.specs.Numbers.{be2, bytes2, bytes4, bytes8}
 use Rattle.wire.specs.Read.{read, read_as, fields_at, fault_of}
 use Rattle.wire.proofs.Digits.{back2, back4, back8}
-use Rattle.wire.proofs.Judgement.{to-judgement}
+use Rattle.wire.proofs.Judgement.{to_judgement}
 
-fault-back : (f : lease.Fault) → fault_of (fault.number f) ≡ Some f
-fault-back Malformed = refl
-fault-back BadAddress = refl
-fault-back OtherClient = refl
-fault-back NotWaiting = refl
-fault-back TooLate = refl
-fault-back NoneFree = refl
-fault-back BadSettings = refl
-fault-back TableLost = refl
-fault-back CountExhausted = refl
+fault_back : (f : lease.Fault) → fault_of (fault.number f) ≡ Some f
+fault_back Malformed = refl
+fault_back BadAddress = refl
+fault_back OtherClient = refl
+fault_back NotWaiting = refl
+fault_back TooLate = refl
+fault_back NoneFree = refl
+fault_back BadSettings = refl
+fault_back TableLost = refl
+fault_back CountExhausted = refl
 
 pub read-encoded : (m : Message) → Fits m → read (encoded m) ≡ Some m
 unfolding read bytes2 bytes4 bytes8
@@ -48,20 +48,20 @@ read-encoded (OwnNumber client) h = ap (λ (a : ℕ). Some (OwnNumber a)) (back4
 read-encoded (Nonce nonce) h = ap (λ (a : ℕ). Some (Nonce a)) (back8 nonce h)
 read-encoded (InUse address until) h = ap₂ (λ (a b : ℕ). Some (InUse a b)) (back2 address h.0) (back8 until h.1)
 read-encoded NoAddress h = refl
-read-encoded (Fault f) h = ap (option_map Fault) (fault-back f)
+read-encoded (Fault f) h = ap (option_map Fault) (fault_back f)
 
-kind-back : (x : Kind) → kind_of (table x).number ≡ Some x
-kind-back k.Request = refl
-kind-back k.Grant = refl
-kind-back k.Settings = refl
-kind-back k.Tick = refl
-kind-back k.Crash = refl
-kind-back k.Restart = refl
-kind-back k.OwnNumber = refl
-kind-back k.Nonce = refl
-kind-back k.InUse = refl
-kind-back k.NoAddress = refl
-kind-back k.Fault = refl
+kind_back : (x : Kind) → kind_of (table x).number ≡ Some x
+kind_back k.Request = refl
+kind_back k.Grant = refl
+kind_back k.Settings = refl
+kind_back k.Tick = refl
+kind_back k.Crash = refl
+kind_back k.Restart = refl
+kind_back k.OwnNumber = refl
+kind_back k.Nonce = refl
+kind_back k.InUse = refl
+kind_back k.NoAddress = refl
+kind_back k.Fault = refl
 
 sized : (m : Message) → length (encoded m) ≡ (table (kind m)).size
 unfolding bytes2 bytes4 bytes8
@@ -82,7 +82,7 @@ misfit : (x : Kind) (bs : List ℕ) → (suc (length bs) ≡ (table x).size → 
 unfolding read
 misfit x bs ne =
     let all : List ℕ = (table x).number ∷ bs in
-    ap (λ (o : Option Kind). read_as o all) (kind-back x) ∙ cond-false (eqb (suc (length bs)) (table x).size) (fields_at x all) None (ne_eqb (suc (length bs)) (table x).size ne)
+    ap (λ (o : Option Kind). read_as o all) (kind_back x) ∙ cond-false (eqb (suc (length bs)) (table x).size) (fields_at x all) None (ne_eqb (suc (length bs)) (table x).size ne)
 
 shortened : (m : Message) (n : ℕ) → n < length (encoded m) → read (take n (encoded m)) ≡ None
 unfolding read
@@ -102,7 +102,7 @@ same_some a b e = cc
 pub unmistakable : (m : Message) → Fits m → Unmistakable m
 unmistakable m h =
     record {
-      read_back = λ reader n meant. ap (answered reader n) (read-encoded m h) ∙ to-judgement reader n m meant;
+      read_back = λ reader n meant. ap (answered reader n) (read-encoded m h) ∙ to_judgement reader n m meant;
       judged_as = λ reader n. ap (answered reader n) (read-encoded m h);
       alone = λ other f e. same_some other m (sym (read-encoded other f) ∙ (ap read e ∙ read-encoded m h));
       cut_short = λ reader n i l. ap (answered reader n) (shortened m i l);

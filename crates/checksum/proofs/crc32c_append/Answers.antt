@@ -2,7 +2,7 @@ use Rattle.std.proofs.Common.{◌≡◌, ℕ, ◌≤◌, List, length, get_or, t
 use lib.Bits.{bit_xor}
 use Rattle.std.proofs.lemmas.List.{take_more, take_all}
 use Rattle.checksum.specs.Crc.{all_ones, run, step, continued}
-use Rattle.checksum.proofs.Crc.{run-push, crc-append}
+use Rattle.checksum.proofs.Crc.{run-push, crc_append}
 use Rattle.checksum.proofs.crc32c_append.Goals as goal
 
 pub loop-byte-init : goal.loop-byte-init
@@ -26,4 +26,4 @@ returns c =
     let start : ℕ = bit_xor c.args.sum all_ones in
     let end : length bs ≤ c.loop-byte.byte-index = omega arith in
     let whole : bit_xor c.loop-byte.state all_ones ≡ continued c.args.sum bs = ap (λ (n : ℕ). bit_xor n all_ones) (c.loop-byte.invariant ∙ ap (run start) (take_all c.loop-byte.byte-index bs end)) in
-    record { value = whole; joins = λ before e. whole ∙ ap (λ (n : ℕ). continued n bs) e ∙ crc-append before bs }
+    record { value = whole; joins = λ before e. whole ∙ ap (λ (n : ℕ). continued n bs) e ∙ crc_append before bs }

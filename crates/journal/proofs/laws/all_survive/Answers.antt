@@ -1,5 +1,5 @@
-use Rattle.journal.proofs.Runs.{all-survive}
+use Rattle.journal.proofs.Runs.{all_survive}
 use Rattle.journal.proofs.laws.all_survive.Goals as goal
 
 pub returns : goal.returns
-returns c = all-survive
+returns c = all_survive

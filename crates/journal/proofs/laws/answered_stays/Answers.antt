@@ -1,5 +1,5 @@
-use Rattle.journal.proofs.Runs.{answered-stays}
+use Rattle.journal.proofs.Runs.{answered_stays}
 use Rattle.journal.proofs.laws.answered_stays.Goals as goal
 
 pub returns : goal.returns
-returns c = answered-stays
+returns c = answered_stays

@@ -1,5 +1,5 @@
-use Rattle.journal.proofs.Appends.{append-stands}
+use Rattle.journal.proofs.Appends.{append_stands}
 use Rattle.journal.proofs.laws.append_stands.Goals as goal
 
 pub returns : goal.returns
-returns c = append-stands
+returns c = append_stands

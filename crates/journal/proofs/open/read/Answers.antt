@@ -1,6 +1,6 @@
 use Rattle.journal.specs.Image.{device_of}
-use Rattle.journal.proofs.Readings.{row-0, row-1}
+use Rattle.journal.proofs.Readings.{row_0, row_1}
 use Rattle.journal.proofs.open.read.Goals as goal
 
 pub returns : goal.returns
-returns c = c.choose.ensures (device_of c.args.device.now) (row-0 c.args.device.now c.scan_row.result c.scan_row.ensures) (row-1 c.args.device.now c.scan_row-2.result c.scan_row-2.ensures)
+returns c = c.choose.ensures (device_of c.args.device.now) (row_0 c.args.device.now c.scan_row.result c.scan_row.ensures) (row_1 c.args.device.now c.scan_row-2.result c.scan_row-2.ensures)

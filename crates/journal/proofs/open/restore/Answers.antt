@@ -2,7 +2,7 @@ use Rattle.std.proofs.Common.{◌+◌, ◌≢◌, [], get_or, None, Option, ap, 
 use Rattle.journal.specs.declared.record.Record.{Record}
 use Rattle.journal.specs.Bytes.{zeros, place_from, place_of}
 use Rattle.journal.specs.Row.{table_of}
-use Rattle.journal.proofs.Restores.{restored-more}
+use Rattle.journal.proofs.Restores.{restored_more}
 use Rattle.journal.proofs.open.restore.Goals as goal
 
 pub loop-i-preserved : goal.loop-i-preserved
@@ -17,7 +17,7 @@ loop-k-init c a l = c.loop-i.invariant a (omega arith)
 
 pub loop-k-preserved : goal.loop-k-preserved
 loop-k-preserved c =
-    restored-more (λ k. place_of (get_or c.args.device.now (c.args.from + k) [])) c.loop-k.k c.loop-k.table c.put_record.new.table c.decode.result (zeros (get_or c.args.device.now (c.args.from + c.loop-k.k) []))
+    restored_more (λ k. place_of (get_or c.args.device.now (c.args.from + k) [])) c.loop-k.k c.loop-k.table c.put_record.new.table c.decode.result (zeros (get_or c.args.device.now (c.args.from + c.loop-k.k) []))
     (omega arith)
     (ap (λ (o : Option Record). place_from o (zeros (get_or c.args.device.now (c.args.from + c.loop-k.k) []))) c.decode.ensures.value)
     c.loop-k.invariant

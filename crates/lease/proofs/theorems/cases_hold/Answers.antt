@@ -1,5 +1,5 @@
-use Rattle.lease.proofs.Cases.{cases-hold}
+use Rattle.lease.proofs.Cases.{cases_hold}
 use Rattle.lease.proofs.theorems.cases_hold.Goals as goal
 
 pub returns : goal.returns
-returns c = cases-hold
+returns c = cases_hold

@@ -1,5 +1,5 @@
-use Rattle.lease.proofs.Witness.{lent-on, last-tick, lent-anew, keeps-renewing}
+use Rattle.lease.proofs.Witness.{lent-on, last_tick_lem, lent-anew, keeps-renewing}
 use Rattle.lease.proofs.theorems.witnesses.Goals as goal
 
 pub returns : goal.returns
-returns c = record { lent_on = lent-on; last_tick = last-tick; lent_anew = lent-anew; renewed = keeps-renewing }
+returns c = record { lent_on = lent-on; last_tick = last_tick_lem; lent_anew = lent-anew; renewed = keeps-renewing }

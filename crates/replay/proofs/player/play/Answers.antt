@@ -5,26 +5,26 @@ use Rattle.script.specs.declared.entry.Unread.TheVariants.{Fault, NoMemory}
 use Rattle.script.specs.Script.{Failed, part_of}
 use Rattle.system.specs.declared.line.Line.{Line}
 use Rattle.system.specs.Report.{Play, played}
-use Rattle.system.proofs.Promise.{names-no-two}
+use Rattle.system.proofs.Promise.{names_no_two}
 use Rattle.replay.specs.declared.player.Stopped.{Stopped}
 use Rattle.replay.specs.Of.{play_of}
 use Rattle.replay.specs.Played.{Unplayed, events_in, stopped_by}
 use Rattle.replay.proofs.Plays.{within_all}
 use Rattle.replay.proofs.player.play.Goals as goal
 
-unread-unplayed : (bytes : List ℕ) (old : List Line) (u : Unread) → Failed bytes u → Unplayed bytes old old (stopped_by u)
-unread-unplayed bytes old (Fault n) f = (f, refl)
-unread-unplayed bytes old NoMemory f = inl refl
+unread_unplayed : (bytes : List ℕ) (old : List Line) (u : Unread) → Failed bytes u → Unplayed bytes old old (stopped_by u)
+unread_unplayed bytes old (Fault n) f = (f, refl)
+unread_unplayed bytes old NoMemory f = inl refl
 
 pub returns-in-Err : goal.returns-in-Err
 returns-in-Err c = record {
   ended = subst (λ (s : Stopped). Unplayed c.args.script.now (vec_items c.args.report.now) (vec_items c.args.report.now) s) (sym c.why.ensures)
-      (unread-unplayed c.args.script.now (vec_items c.args.report.now) c.in-Err.unread c.in-Err.ensures.reads);
-  promise = names-no-two;
+      (unread_unplayed c.args.script.now (vec_items c.args.report.now) c.in-Err.unread c.in-Err.ensures.reads);
+  promise = names_no_two;
 }
 
 pub returns-in_default-new : goal.returns-in_default-new
-returns-in_default-new c = record { ended = inl refl; promise = names-no-two }
+returns-in_default-new c = record { ended = inl refl; promise = names_no_two }
 
 pub returns-in-Ok-play_all : goal.returns-in-Ok-play_all
 returns-in-Ok-play_all c = record {
@@ -34,9 +34,9 @@ returns-in-Ok-play_all c = record {
     appends = c.in-Ok-play_all.ensures
         ∙ ap (λ (l : List Entry). vec_items c.args.report.now ++ played (events_in c.args.script.now l) (play_of c.in-Ok.simulation)) c.deref.ensures.value
         ∙ ap (λ (h : Play). vec_items c.args.report.now ++ played (events_in c.args.script.now (vec_items c.read.new.entries)) h) c.in-Ok.ensures;
-    promise = λ k. names-no-two (events_in c.args.script.now (vec_items c.read.new.entries)) (within_all (map (part_of c.args.script.now) (vec_items c.read.new.entries)) c.in_default.ensures.reads.known) k;
+    promise = λ k. names_no_two (events_in c.args.script.now (vec_items c.read.new.entries)) (within_all (map (part_of c.args.script.now) (vec_items c.read.new.entries)) c.in_default.ensures.reads.known) k;
   };
-  promise = names-no-two;
+  promise = names_no_two;
 }
 
 pub returns : goal.returns
@@ -51,5 +51,5 @@ returns c = record {
           ∙ ap (λ (h : Play). vec_items c.args.report.now ++ played (events_in c.args.script.now (vec_items c.read.new.entries)) h) c.in-Ok.ensures;
     };
   });
-  promise = names-no-two;
+  promise = names_no_two;
 }

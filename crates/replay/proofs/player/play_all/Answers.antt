@@ -4,7 +4,7 @@ use Rattle.system.specs.Report.{played}
 use Rattle.replay.specs.Of.{play_of}
 use Rattle.replay.specs.Played.{events_in}
 use Rattle.replay.specs.Watch.{is_judged}
-use Rattle.replay.proofs.Plays.{play-turn, play-end}
+use Rattle.replay.proofs.Plays.{play-turn, play_end}
 use Rattle.replay.proofs.player.play_all.Goals as goal
 
 pub loop-i-init : goal.loop-i-init
@@ -17,7 +17,7 @@ loop-i-preserved c =
     c.loop-i.invariant
 
 pub returns : goal.returns
-returns c = play-end c.args.script.now c.args.entries.now c.loop-i.i (play_of c.loop-i.simulation) (vec_items c.loop-i.report) _ c.loop-i-test.false c.loop-i.invariant
+returns c = play_end c.args.script.now c.args.entries.now c.loop-i.i (play_of c.loop-i.simulation) (vec_items c.loop-i.report) _ c.loop-i-test.false c.loop-i.invariant
 
 pub returns-in-Err : goal.returns-in-Err
 returns-in-Err c = record {

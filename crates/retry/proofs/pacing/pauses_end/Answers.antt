@@ -1,6 +1,6 @@
 -- Proved in proofs/InTime.antt.
-use Rattle.retry.proofs.InTime.{pauses-end}
+use Rattle.retry.proofs.InTime.{pauses_end}
 use Rattle.retry.proofs.pacing.pauses_end.Goals as goal
 
 pub returns : goal.returns
-returns c = pauses-end
+returns c = pauses_end

@@ -1,5 +1,5 @@
-use Rattle.script.proofs.Readings.{one-fault}
+use Rattle.script.proofs.Readings.{one_fault}
 use Rattle.script.proofs.laws.one_fault.Goals as goal
 
 pub returns : goal.returns
-returns c = one-fault
+returns c = one_fault

@@ -1,5 +1,5 @@
-use Rattle.seen.proofs.Members.{members-are-in}
+use Rattle.seen.proofs.Members.{members_are_in}
 use Rattle.seen.proofs.laws.members_are_in.Goals as goal
 
 pub returns : goal.returns
-returns c = members-are-in
+returns c = members_are_in

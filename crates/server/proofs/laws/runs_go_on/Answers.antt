@@ -1,5 +1,5 @@
-use Rattle.server.proofs.Following.{begins, run-goes-on, run-is-cut, run-ticks}
+use Rattle.server.proofs.Following.{begins, run-goes_on, run-is-cut, run-ticks}
 use Rattle.server.proofs.laws.runs_go_on.Goals as goal
 
 pub returns : goal.returns
-returns c = record { begins = begins; steps = run-goes-on; ticks = run-ticks; cuts = run-is-cut }
+returns c = record { begins = begins; steps = run-goes_on; ticks = run-ticks; cuts = run-is-cut }

@@ -1,5 +1,5 @@
-use Rattle.server.proofs.Ordering.{steps-orderly}
+use Rattle.server.proofs.Ordering.{steps_orderly}
 use Rattle.server.proofs.laws.steps_orderly.Goals as goal
 
 pub returns : goal.returns
-returns c = steps-orderly
+returns c = steps_orderly

@@ -1,5 +1,5 @@
-use Rattle.text.proofs.RoundTrip.{every-written}
+use Rattle.text.proofs.RoundTrip.{every_written}
 use Rattle.text.proofs.laws.every_script.Goals as goal
 
 pub returns : goal.returns
-returns c = every-written
+returns c = every_written

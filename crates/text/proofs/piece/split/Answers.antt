@@ -1,6 +1,6 @@
 use Rattle.std.proofs.Common.{ℕ, List, ◌∷◌, sym, ◌∙◌, ap₂, arith}
 use Rattle.text.specs.Pieces.{pieces}
-use Rattle.text.proofs.Cutting.{Found, pieces-at, behind, behind-end}
+use Rattle.text.proofs.Cutting.{Found, pieces-at, behind, behind_end}
 use Rattle.text.proofs.piece.split.Goals as goal
 
 pub returns-in_default : goal.returns-in_default
@@ -12,7 +12,7 @@ returns-in_default c =
     record {
       pieces =
           pieces-at end c.args.text.now c.find-at.result c.requires found
-          ∙ ap₂ (λ (f r : List ℕ). f ∷ pieces end r) (sym c.split_at.ensures.front) (sym (behind-end c.args.text.now _ c.find-at.result c.split_at.ensures.back c.in_default.ensures.cases (omega (arith, c.in_default.ensures.cases, c.split_at.ensures.back_len))));
+          ∙ ap₂ (λ (f r : List ℕ). f ∷ pieces end r) (sym c.split_at.ensures.front) (sym (behind_end c.args.text.now _ c.find-at.result c.split_at.ensures.back c.in_default.ensures.cases (omega (arith, c.in_default.ensures.cases, c.split_at.ensures.back_len))));
       shorter = omega (arith, c.in_default.ensures.cases);
     }
 

@@ -6,8 +6,8 @@ use Rattle.text.specs.Entries.{entry, entries}
 use Rattle.text.specs.Write.{Answer, run_text, writing, write_text}
 use Rattle.text.proofs.Digits.{positive}
 use Rattle.text.proofs.RoundTrip.{round_trip}
-use Rattle.text.proofs.Splitting.{rest-less}
-use Rattle.text.proofs.Writings.{entry-written, entry-refused, all-written}
+use Rattle.text.proofs.Splitting.{rest_less}
+use Rattle.text.proofs.Writings.{entry-written, entry_refused, all-written}
 use Rattle.text.proofs.writing.write_text.Goals as goal
 
 pub loop-rest-init : goal.loop-rest-init
@@ -17,13 +17,13 @@ loop-rest-init c =
 
 pub loop-rest-smaller : goal.loop-rest-smaller
 loop-rest-smaller c =
-    rest-less c.args.form c.loop-rest.rest.now _ c.in-Entry.after.now (positive _ c.loop-rest-test.ensures) c.in-Entry.ensures
+    rest_less c.args.form c.loop-rest.rest.now _ c.in-Entry.after.now (positive _ c.loop-rest-test.ensures) c.in-Entry.ensures
 
 pub loop-rest-preserved : goal.loop-rest-preserved
 loop-rest-preserved c =
     let some : 0 < length c.loop-rest.rest.now = positive _ c.loop-rest-test.ensures in
     let less : length c.in-Entry.after.now < length c.loop-rest.rest.now =
-    rest-less c.args.form c.loop-rest.rest.now _ c.in-Entry.after.now some c.in-Entry.ensures
+    rest_less c.args.form c.loop-rest.rest.now _ c.in-Entry.after.now some c.in-Entry.ensures
     in (
       sym (entry-written c.args.form (length c.args.bytes.now) (vec_items c.loop-rest.out) (vec_items c.put.new.out) c.loop-rest.rest.now c.in-Entry.after.now c.loop-rest.run c.in-Ok.next (entry c.in-Entry.who c.in-Entry.message.now) some c.in-Entry.ensures c.in-Ok.ensures.text c.in-Ok.ensures.run)
           ∙ c.loop-rest.invariant.0,
@@ -35,7 +35,7 @@ returns-in-Broken c =
     record {
       text =
           sym c.loop-rest.invariant.0
-          ∙ entry-refused c.args.form (length c.args.bytes.now) (vec_items c.loop-rest.out) c.loop-rest.rest.now c.loop-rest.run c.in-Broken.breach (positive _ c.loop-rest-test.ensures) c.in-Broken.ensures;
+          ∙ entry_refused c.args.form (length c.args.bytes.now) (vec_items c.loop-rest.out) c.loop-rest.rest.now c.loop-rest.run c.in-Broken.breach (positive _ c.loop-rest-test.ensures) c.in-Broken.ensures;
       back = tt;
     }
 

@@ -1,5 +1,5 @@
 use Rattle.client.specs.Of.{client_of}
-use Rattle.client.proofs.Steps.{laws, laws-heard}
+use Rattle.client.proofs.Steps.{laws, laws_heard}
 use Rattle.client.proofs.client.Client.hear.Goals as goal
 
 pub returns : goal.returns
@@ -9,5 +9,5 @@ returns c =
       out = c.hear_bytes.ensures.out;
       succeeds = c.hear_bytes.ensures.succeeds;
       laws = laws c.args.bytes.now (client_of c.args.self.now);
-      heard = laws-heard c.args.bytes.now (client_of c.args.self.now);
+      heard = laws_heard c.args.bytes.now (client_of c.args.self.now);
     }

@@ -4,7 +4,7 @@ use Rattle.journal.specs.Table.{Table, keeping}
 use Rattle.journal.specs.Device.{Cursor}
 use Rattle.journal.specs.Image.{table_in}
 use Rattle.journal.specs.Memory.{Copied, copied_to, cursor_of, places_of}
-use Rattle.journal.proofs.Tables.{length-keeping, keeping_start, keeping-le}
+use Rattle.journal.proofs.Tables.{length_keeping, keeping_start, keeping_le}
 use Rattle.journal.proofs.Copies.{none-copied, more-copied}
 use Rattle.journal.proofs.journal.Journal.copy.Goals as goal
 
@@ -23,8 +23,8 @@ write_some-requires c =
     let e : cursor_of c.loop-i.self ≡ copied_to (cursor_of c.args.self.now) (length (keeping c.args.clock t c.loop-i.i)) = c.loop-i.invariant.0.cursor in
     let n : (cursor_of c.loop-i.self).count ≡ length (keeping c.args.clock t c.loop-i.i) = ap (λ (x : Cursor). x.count) e in
     let f : (cursor_of c.loop-i.self).first ≡ (cursor_of c.args.self.now).first = ap (λ (x : Cursor). x.first) e in
-    let l : length (keeping c.args.clock t c.loop-i.i) ≤ c.loop-i.i = length-keeping c.args.clock t c.loop-i.i in
-    let m : length (keeping c.args.clock t c.loop-i.i) ≤ length (keeping c.args.clock t (length c.args.table.now)) = keeping-le c.args.clock t c.loop-i.i (length c.args.table.now) (omega arith) in
+    let l : length (keeping c.args.clock t c.loop-i.i) ≤ c.loop-i.i = length_keeping c.args.clock t c.loop-i.i in
+    let m : length (keeping c.args.clock t c.loop-i.i) ≤ length (keeping c.args.clock t (length c.args.table.now)) = keeping_le c.args.clock t c.loop-i.i (length c.args.table.now) (omega arith) in
     record { room = omega (arith, c.requires.few); early = omega (arith, c.requires.early) }
 
 pub loop-i-preserved : goal.loop-i-preserved

@@ -3,7 +3,7 @@ use Rattle.journal.specs.Image.{device_of, side_of, unread}
 use Rattle.journal.specs.Bytes.{decoded}
 use Rattle.journal.specs.Memory.{cursor_of, next_record}
 use Rattle.journal.proofs.Stores.{device-set}
-use Rattle.journal.proofs.Memories.{index_at, cursor-counted}
+use Rattle.journal.proofs.Memories.{index_at, cursor_counted}
 use Rattle.journal.proofs.journal.Journal.write.Goals as goal
 
 pub returns : goal.returns
@@ -17,7 +17,7 @@ returns c =
           ∙ device-set (vec_items c.args.self.now.device) (side_of c.args.self.now.active) (get_or c.args.self.now.rows c.args.self.now.active unread).count c.encode.new.place
           (next_record (cursor_of c.args.self.now) c.args.lease) c.encode.ensures.back (sym c.args.self.now.device.ok.0 ∙ c.args.self.now.sized) c.requires.room;
       legible = ap decoded (sym c.encode.ensures.bytes) ∙ c.encode.ensures.back;
-      cursor = cursor-counted c.args.self.now.rows c.args.self.now.active c.args.self.now.highest c.max-self.result (omega (arith, c.args.self.now.one)) c.max-self.ensures;
+      cursor = cursor_counted c.args.self.now.rows c.args.self.now.active c.args.self.now.highest c.max-self.result (omega (arith, c.args.self.now.one)) c.max-self.ensures;
       active = refl;
       found = refl;
     }

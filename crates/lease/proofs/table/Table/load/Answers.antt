@@ -3,11 +3,11 @@ use mathlib.Core.Path.{fun_ext}
 use Rattle.lease.specs.declared.lease.Lease.{Lease}
 use Rattle.lease.specs.Table.{table_of}
 use Rattle.std.proofs.lemmas.Bool.{cases_lt, cond-true, cond-false, lt-ltb, le-ltb}
-use Rattle.lease.proofs.Places.{at-home-address, table-past, set_here, set_below}
+use Rattle.lease.proofs.Places.{at_home-address, table-past, set_here, set_below}
 use Rattle.lease.proofs.table.Table.load.Goals as goal
 
 pub put-requires : goal.put-requires
-put-requires c = (omega (arith, c.loop-a-test.true, c.loop-a.invariant.1), λ l e. at-home-address c.loop-a.a _ l (sym c.at_home.ensures ∙ e))
+put-requires c = (omega (arith, c.loop-a-test.true, c.loop-a.invariant.1), λ l e. at_home-address c.loop-a.a _ l (sym c.at_home.ensures ∙ e))
 
 pub loop-a-preserved : goal.loop-a-preserved
 loop-a-preserved c =

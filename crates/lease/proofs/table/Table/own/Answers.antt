@@ -1,6 +1,6 @@
 use Rattle.std.proofs.Common.{◌≡◌, ℕ, Bool, true, false, vec_items, sym, ◌∙◌}
 use Rattle.lease.specs.Table.{table_of, owned}
-use Rattle.lease.proofs.Places.{lowest_start, lowest-here, lowest-next, lowest-end}
+use Rattle.lease.proofs.Places.{lowest_start, lowest-here, lowest-next, lowest_end}
 use Rattle.lease.proofs.table.Table.own.Goals as goal
 
 pub loop-a-init : goal.loop-a-init
@@ -21,4 +21,4 @@ returns-then-is_own c =
 pub returns : goal.returns
 returns c =
     let test : ℕ → Bool = λ a. owned c.args.clock.ticks c.args.client (table_of (vec_items c.args.self.now.leases) a) in
-    sym (c.loop-a.invariant ∙ lowest-end test c.loop-a.a c.args.self.now.addresses c.loop-a-test.false)
+    sym (c.loop-a.invariant ∙ lowest_end test c.loop-a.a c.args.self.now.addresses c.loop-a-test.false)

@@ -1,6 +1,6 @@
 use Rattle.std.proofs.Common.{◌≡◌, ℕ, Bool, true, false, vec_items, sym, refl, ◌∙◌}
 use Rattle.lease.specs.Table.{table_of, vacant}
-use Rattle.lease.proofs.Places.{lowest_start, lowest-here, lowest-next, lowest-end}
+use Rattle.lease.proofs.Places.{lowest_start, lowest-here, lowest-next, lowest_end}
 use Rattle.lease.proofs.table.Table.vacancy.Goals as goal
 
 pub addresses-init : goal.addresses-init
@@ -21,4 +21,4 @@ returns-then-is_vacant c =
 pub returns-after-addresses : goal.returns-after-addresses
 returns-after-addresses c =
     let test : ℕ → Bool = λ a. vacant c.args.clock.ticks (table_of (vec_items c.args.self.now.leases) a) in
-    c.addresses.invariant.0 ∙ sym (c.addresses.invariant.1 ∙ lowest-end test c.addresses.a c.args.self.now.addresses c.addresses-test.false)
+    c.addresses.invariant.0 ∙ sym (c.addresses.invariant.1 ∙ lowest_end test c.addresses.a c.args.self.now.addresses c.addresses-test.false)

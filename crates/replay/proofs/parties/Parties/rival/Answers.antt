@@ -1,6 +1,6 @@
 use Rattle.std.proofs.Common.{◌≡◌, ℕ, Bool, true, false, sym, ◌∙◌}
 use Rattle.system.specs.Report.{rival}
-use Rattle.lease.proofs.Places.{lowest_start, lowest-here, lowest-next, lowest-end}
+use Rattle.lease.proofs.Places.{lowest_start, lowest-here, lowest-next, lowest_end}
 use Rattle.replay.specs.Parties.{parties_of}
 use Rattle.replay.proofs.parties.Parties.rival.Goals as goal
 
@@ -22,4 +22,4 @@ returns-then-is_rival c =
 pub returns : goal.returns
 returns c =
     let test : ℕ → Bool = rival (parties_of c.args.self.now) c.args.place c.args.address in
-    record { value = sym (c.loop-other.invariant ∙ lowest-end test c.loop-other.other 65 c.loop-other-test.false); below = tt }
+    record { value = sym (c.loop-other.invariant ∙ lowest_end test c.loop-other.other 65 c.loop-other-test.false); below = tt }

@@ -1,6 +1,6 @@
 use Rattle.std.proofs.Common.{◌≡◌, length, vec_items, sym, ◌∙◌}
 use Rattle.seen.specs.declared.seen.Seen.{Seen}
-use Rattle.seen.proofs.Scans.{scan-start, scan-next, scan-back, scan-found, scan-end}
+use Rattle.seen.proofs.Scans.{scan-start, scan-next, scan_back, scan-found, scan_end}
 use Rattle.seen.proofs.seen.Seen.contains.Goals as goal
 
 paired : (s : Seen) → length (vec_items s.links) ≡ length (vec_items s.stamps)
@@ -18,7 +18,7 @@ loop-place-preserved c =
 
 pub loop-place-smaller : goal.loop-place-smaller
 loop-place-smaller c =
-    scan-back c.args.stamp (vec_items c.args.self.now.stamps) (vec_items c.args.self.now.links) c.loop-place.place _
+    scan_back c.args.stamp (vec_items c.args.self.now.stamps) (vec_items c.args.self.now.links) c.loop-place.place _
     (paired c.args.self.now) c.args.self.now.linked c.loop-place.invariant c.loop-place-test.true c.index-place-in-loop-place.ensures
 
 pub returns-then-equals : goal.returns-then-equals
@@ -27,4 +27,4 @@ returns-then-equals c =
     c.loop-place.invariant c.loop-place-test.true c.index.ensures c.equals.ensures c.if-equals.true
 
 pub returns : goal.returns
-returns c = scan-end c.args.stamp (vec_items c.args.self.now.stamps) c.loop-place.place c.loop-place.invariant c.loop-place-test.false
+returns c = scan_end c.args.stamp (vec_items c.args.self.now.stamps) c.loop-place.place c.loop-place.invariant c.loop-place-test.false

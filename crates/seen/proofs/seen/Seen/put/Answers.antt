@@ -3,8 +3,8 @@ use Rattle.std.proofs.lemmas.List.{get_or_read}
 use Rattle.seen.specs.declared.stamp.Stamp.{Stamp}
 use Rattle.seen.specs.Stamp.{bucket_of, width}
 use Rattle.seen.specs.Chain.{bucket_at, newest}
-use Rattle.seen.proofs.Chains.{linked-push, headed-push}
-use Rattle.seen.proofs.Members.{reverse-push}
+use Rattle.seen.proofs.Chains.{linked_push, headed_push}
+use Rattle.seen.proofs.Members.{reverse_push_lem}
 use Rattle.seen.proofs.seen.Seen.put.Goals as goal
 
 pub invariant_of-self : goal.invariant_of-self
@@ -24,9 +24,9 @@ invariant_of-self c =
     record {
       paired = search rules;
       wide = c.args.self.now.wide;
-      linked = linked-push xs _ ls _ c.args.stamp _ c.push_reserved-2.ensures.items c.push_reserved.ensures.items long head c.args.self.now.linked;
-      headed = headed-push xs _ hs c.args.stamp b c.len.result c.push_reserved-2.ensures.items wide c.bucket-bucket.ensures.below c.bucket-bucket.ensures.value count c.args.self.now.headed;
+      linked = linked_push xs _ ls _ c.args.stamp _ c.push_reserved-2.ensures.items c.push_reserved.ensures.items long head c.args.self.now.linked;
+      headed = headed_push xs _ hs c.args.stamp b c.len.result c.push_reserved-2.ensures.items wide c.bucket-bucket.ensures.below c.bucket-bucket.ensures.value count c.args.self.now.headed;
     }
 
 pub returns : goal.returns
-returns c = ap (λ (ys : List Stamp). reverse ys) c.push_reserved-2.ensures.items ∙ reverse-push (vec_items c.args.self.now.stamps) c.args.stamp
+returns c = ap (λ (ys : List Stamp). reverse ys) c.push_reserved-2.ensures.items ∙ reverse_push_lem (vec_items c.args.self.now.stamps) c.args.stamp

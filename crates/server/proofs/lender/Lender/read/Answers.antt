@@ -7,7 +7,7 @@ use Rattle.lease.specs.Of.{settings_of}
 use Rattle.server.specs.Steps.{Comes, missing}
 use Rattle.server.specs.Server.{reads, tells}
 use Rattle.server.proofs.States.{state_by}
-use Rattle.server.proofs.Readings.{has-read}
+use Rattle.server.proofs.Readings.{has_read}
 use Rattle.server.proofs.lender.Lender.read.Goals as goal
 
 comes : (c : goal.After-told) → Comes c.args.journal.now (state_by c.args.self.now.keeper c.args.journal.now)
@@ -16,7 +16,7 @@ comes c =
     let xs : List (Option Lease) = c.recover.new.table in
     let n : length xs ≡ c.args.self.now.places.len = omega (arith, c.deref_mut.ensures.len, c.args.self.now.places.ok.0) in
     let e : c.deref.result.now ≡ xs = c.deref.ensures.value ∙ with_items_is c.args.self.now.places xs n in
-    has-read c.args.self.now.keeper c.load.new.self c.restart.new.self c.args.journal.now c.recover.new.self xs c.args.clock.ticks _ c.told.result
+    has_read c.args.self.now.keeper c.load.new.self c.restart.new.self c.args.journal.now c.recover.new.self xs c.args.clock.ticks _ c.told.result
     (n ∙ c.args.self.now.sized) c.recover.ensures.device c.recover.ensures.journal c.recover.ensures.table
     (c.told.ensures.file (Some (settings_of c.args.self.now.keeper.settings)) c.args.journal.now c.recover.new.self (state_by c.args.self.now.keeper c.args.journal.now) c.recover.ensures.device)
     (subst (λ (ys : List (Option Lease)). KeeperLoaded ys c.args.self.now.keeper c.load.new.self) e c.load.ensures)

@@ -1,5 +1,5 @@
 use Rattle.server.specs.Of.{state_of}
-use Rattle.server.proofs.Ordering.{steps-orderly}
+use Rattle.server.proofs.Ordering.{steps_orderly}
 use Rattle.server.proofs.Refining.{step-refines}
 use Rattle.server.proofs.server.Server.hear.Goals as goal
 
@@ -10,6 +10,6 @@ returns c =
       out = c.hear_bytes.ensures.out;
       succeeds = c.hear_bytes.ensures.succeeds;
       file = c.hear_bytes.ensures.file;
-      orderly = steps-orderly (state_of c.args.self.now) c.args.bytes.now;
+      orderly = steps_orderly (state_of c.args.self.now) c.args.bytes.now;
       refines = step-refines;
     }

@@ -5,7 +5,7 @@ use Rattle.server.specs.Orderly.{FileBy}
 use Rattle.server.specs.Reply.{effects_of}
 use Rattle.server.specs.Server.{hears}
 use Rattle.server.specs.Steps.{Comes}
-use Rattle.server.proofs.Ordering.{file-by}
+use Rattle.server.proofs.Ordering.{file_by}
 use Rattle.server.proofs.server.Server.hear_bytes.Goals as goal
 
 pub returns : goal.returns
@@ -18,5 +18,5 @@ returns c =
       succeeds = λ room plain. refl;
       file = λ ok.
           subst (λ (es : List Effect). FileBy es c.args.self.now.journal c.answer.new.self.journal (state_of c.args.self.now)) k.effects
-          (file-by (state_of c.args.self.now).settings c.in_ok-reply.reply c.args.self.now.journal c.answer.new.self.journal (state_of c.args.self.now) refl k.file);
+          (file_by (state_of c.args.self.now).settings c.in_ok-reply.reply c.args.self.now.journal c.answer.new.self.journal (state_of c.args.self.now) refl k.file);
     }

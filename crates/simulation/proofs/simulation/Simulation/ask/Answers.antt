@@ -6,15 +6,15 @@ use Rattle.lease.specs.Stands.{server_of}
 use Rattle.simulation.specs.declared.event.Sent.{Sent}
 use Rattle.simulation.specs.declared.event.Sent.TheVariants.{Request}
 use Rattle.simulation.specs.Play.{messages_of, nonces}
-use Rattle.simulation.proofs.Steps.{ask-step, ask-down, asked-up, asked-down}
+use Rattle.simulation.proofs.Steps.{ask_step, ask_down, asked-up, asked_down}
 use Rattle.simulation.proofs.simulation.Simulation.ask.Goals as goal
 
 pub returns-in_default : goal.returns-in_default
 returns-in_default c =
     let h : c.args.client < length (vec_items c.args.self.now.clients) = omega (arith, c.args.self.now.clients.ok.0) in
     record {
-      step = ask-down (server_of c.args.self.now.keeper) (vec_items c.args.self.now.clients) (vec_items c.args.self.now.sent) c.args.client c.args.nonce c.args.preferred _ h c.index-x.ensures
-          (asked-down _ _ (sym c.in_default.is ∙ c.ask-asked.ensures.1));
+      step = ask_down (server_of c.args.self.now.keeper) (vec_items c.args.self.now.clients) (vec_items c.args.self.now.sent) c.args.client c.args.nonce c.args.preferred _ h c.index-x.ensures
+          (asked_down _ _ (sym c.in_default.is ∙ c.ask-asked.ensures.1));
       settings = refl;
       clients = refl;
     }
@@ -27,7 +27,7 @@ returns c =
     let e : world.elem c.args.nonce (nonces (messages_of (vec_items c.args.self.now.sent))) ≡ false =
     sym (ap (λ (l : List Sent). world.elem c.args.nonce (nonces (messages_of l))) c.deref.ensures.value) ∙ sym c.was_drawn.ensures ∙ c.if-was_drawn.false in
     record {
-      step = ask-step (server_of c.args.self.now.keeper) (vec_items c.args.self.now.clients) (vec_items c.args.self.now.sent) (vec_items c.push.new.self)
+      step = ask_step (server_of c.args.self.now.keeper) (vec_items c.args.self.now.clients) (vec_items c.args.self.now.sent) (vec_items c.push.new.self)
           c.args.client c.args.nonce c.args.preferred _ c.ask-asked.result.0 h c.index-x.ensures up.0 e
           (c.ask-asked.ensures.0 ∙ cond-true _ _ _ up.0) (c.in-Ok.ensures.items ∙ ap (λ (r : request.Request). vec_items c.args.self.now.sent ++ Request r ∷ []) up.1);
       settings = refl;
