@@ -14,6 +14,7 @@ for crate; do
   built=crates/$crate/out/$crate
   rm -f "$built" "$built.stamp"
   # rt builds a program when it runs it; how the run ends is no matter here
+  echo "tools/build.sh: proves and builds $crate" >&2
   mkdir -p "crates/$crate/out"
   (cd "crates/$crate" && rt run -- --help < /dev/null > out/build.log 2>&1) || true
   [ -x "$built" ] || { cat "crates/$crate/out/build.log"; echo "tools/build.sh: $crate was not built" >&2; exit 1; }

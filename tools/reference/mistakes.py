@@ -14,7 +14,7 @@ from journal import DEVICE
 from server import Server
 from simulation import Hall
 
-DATA = os.path.join(os.path.dirname(os.path.abspath(__file__)), "..", "..", "crates", "hall", "data")
+DATA = os.path.join(os.path.dirname(os.path.abspath(__file__)), "..", "..", "crates", "hall_cases", "data")
 
 
 class SleepsOn(Client):
