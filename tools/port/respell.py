@@ -5,7 +5,7 @@ usage: python3 tools/port/respell.py [--list]     at the top of the repository, 
 
 What is respelled is what the specs/ and proofs/ of the crates define themselves: functions, lemmas, labels and fields that
 are written like `clientOf`, and functions and labels of specs/ that are written like `fault-of`. Constructors, types,
-modules and whatever comes from src/ keep their names. It stops where two names would fall together.
+modules and whatever comes from src/ keep their names. It reports names that would fall together.
 """
 import glob
 import re
