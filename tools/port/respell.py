@@ -88,6 +88,15 @@ def ghostly(text, names):
     return "".join(out)
 
 
+def rewrite(names, turn):
+    """Each file of specs/ and proofs/ as `turn` has it, and the clauses of each source in the new names."""
+    for path in files("specs/**/*.antt", "proofs/**/*.antt", "src/**/*.rt"):
+        text = open(path, encoding="utf-8").read()
+        new = ghostly(text, names) if path.endswith(".rt") else turn(path, text)
+        if new != text:
+            open(path, "w", encoding="utf-8").write(new)
+
+
 def main(argv):
     names = collect()
     taken = set()
@@ -100,16 +109,7 @@ def main(argv):
             print(n, m, "TAKEN" if m in taken else "")
         print("fall together:", twice)
         return 0
-    for path in files("specs/**/*.antt", "proofs/**/*.antt"):
-        text = open(path, encoding="utf-8").read()
-        new = turned(text, names)
-        if new != text:
-            open(path, "w", encoding="utf-8").write(new)
-    for path in files("src/**/*.rt"):
-        text = open(path, encoding="utf-8").read()
-        new = ghostly(text, names)
-        if new != text:
-            open(path, "w", encoding="utf-8").write(new)
+    rewrite(names, lambda path, text: turned(text, names))
     print(len(names), "names respelled; already there:", met, "; fall together:", twice)
     return 0
 

@@ -13,7 +13,7 @@ import re
 import sys
 
 sys.path.insert(0, os.path.dirname(os.path.abspath(__file__)))
-from respell import TOKEN, files, ghostly, snake  # noqa: E402
+from respell import TOKEN, files, rewrite, snake  # noqa: E402
 
 KIT = "/opt/rattle/rattle"
 SIGNATURE = re.compile(r"^\s*(?:(?:abbrev|unfoldable|pub|opaque|record|data)\s+)*([^\s:(){},;.\[\]]+)(?:\s+[({][^:]*:.*)?\s*:\s")
@@ -112,6 +112,11 @@ def substitute(text, names, made):
     return TOKEN.sub(one, text)
 
 
+def is_made(path):
+    """Whether a file answers goals of a function, and so cites names that Rattle makes."""
+    return os.path.basename(path) in ("Answers.antt", "Invariants.antt", "Proof.antt") and not os.path.dirname(path).endswith("/proofs")
+
+
 def main(argv):
     names = collect()
     if "--list" in argv:
@@ -132,17 +137,7 @@ def main(argv):
         for c in clashes:
             print("falls together:", *c)
         return 1
-    for path in files("specs/**/*.antt", "proofs/**/*.antt"):
-        text = open(path, encoding="utf-8").read()
-        made = os.path.basename(path) in ("Answers.antt", "Invariants.antt", "Proof.antt") and not os.path.dirname(path).endswith("/proofs")
-        new = substitute(text, names, made)
-        if new != text:
-            open(path, "w", encoding="utf-8").write(new)
-    for path in files("src/**/*.rt"):
-        text = open(path, encoding="utf-8").read()
-        new = ghostly(text, names)
-        if new != text:
-            open(path, "w", encoding="utf-8").write(new)
+    rewrite(names, lambda path, text: substitute(text, names, is_made(path)))
     print(len(names), "names respelled")
     return 0
 

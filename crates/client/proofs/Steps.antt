@@ -21,7 +21,7 @@ use Rattle.client.specs.State.{State, Turn, in_use, does}
 use Rattle.client.specs.Client.{Client, Step, preferred, keeps, sends, ready, asks_by, lends, lent_by, lent, queued, refuses, goes_on, answers, size, understood, hears}
 use Rattle.client.specs.Telling.{told}
 use Rattle.client.specs.Nonces.{requests, nonces}
-use Rattle.client.specs.Refines.{Act, Passes, Asks, Hears, Crashes, Starts, act, acts, Fits, Fit, AllFrom, HeardIn, sent, Refines, RefinesHeard}
+use Rattle.client.specs.Refines.{Act, Passes, Asks, Hears, Crashes, Starts, act, acts, Fits, Fit, AllFrom, HeardIn, sent, RefinesHeard}
 use Rattle.client.specs.Refines.{sends as sends-of}
 use Rattle.client.specs.Laws.{Laws}
 use Rattle.client.proofs.Turns.{Turned, turned}
@@ -93,7 +93,7 @@ module _ (c : Client) where
       record {
         tells = refl;
         in_order = ap (λ (k : List ℕ). c.nonces ++ k) e ∙ append-nil c.nonces;
-        refines = record { does = []; heard = h; fit = tt; holder = refl; requested = refl };
+        refines = record { refines = record { does = []; fit = tt; holder = refl; requested = refl }; heard = h };
       }
 
   module _ (m : Message) (l : List ℕ) (t : Turn) (d : Turned m c.state t) where
@@ -103,7 +103,7 @@ module _ (c : Client) where
         record {
           tells = d.tells;
           in_order = e ∙ ap (λ (rs : List lent.Request). nonces rs ++ ns) (sym d.quiet);
-          refines = record { does = d.does; heard = d.heard; fit = d.fit; holder = d.holder; requested = d.quiet ∙ sym d.silent };
+          refines = record { refines = record { does = d.does; fit = d.fit; holder = d.holder; requested = d.quiet ∙ sym d.silent }; heard = d.heard };
         }
 
     sending : (k : model.Settings) (own n : ℕ) (ns : List ℕ) → t.state.own ≡ Some own → t.state.holder.up ≡ true → c.nonces ++ l ≡ n ∷ ns → Lawful (Ok m) c l (sends k own n t ns)
@@ -115,11 +115,13 @@ module _ (c : Client) where
           tells = told-++ t.says (Request r ∷ []) (in_use c.state) ∙ d.tells;
           in_order = e ∙ ap (λ (rs : List lent.Request). nonces rs ++ ns) (sym said);
           refines = record {
-            does = d.does ++ (Asks r ∷ []);
+            refines = record {
+              does = d.does ++ (Asks r ∷ []);
+              fit = fit-++ t.state (sends k own n t ns).client.state refl refl d.does (Asks r ∷ []) c.state.holder d.fit ((o, ap (λ (x : world.Client). x.up) (sym d.holder) ∙ up), tt);
+              holder = ap (λ (x : world.Client). asked n x) d.holder ∙ sym (acts-++ d.does (Asks r ∷ []) c.state.holder);
+              requested = said ∙ ap (λ (rs : List lent.Request). rs ++ (r ∷ [])) (sym d.silent) ∙ sym (sent-++ d.does (Asks r ∷ []));
+            };
             heard = asks-from m r d.does d.heard;
-            fit = fit-++ t.state (sends k own n t ns).client.state refl refl d.does (Asks r ∷ []) c.state.holder d.fit ((o, ap (λ (x : world.Client). x.up) (sym d.holder) ∙ up), tt);
-            holder = ap (λ (x : world.Client). asked n x) d.holder ∙ sym (acts-++ d.does (Asks r ∷ []) c.state.holder);
-            requested = said ∙ ap (λ (rs : List lent.Request). rs ++ (r ∷ [])) (sym d.silent) ∙ sym (sent-++ d.does (Asks r ∷ []));
           };
         }
 
@@ -182,10 +184,6 @@ answering c l (Ok m) e =
     record { tells = k.tells; in_order = ap (λ (q : List ℕ). c.nonces ++ q) e ∙ k.in_order; refines = k.refines }
 answering c l (Err f) e = refusing c (Err f) refl f l e
 
--- what is done, whatever it comes from
-done : (a : Answer) (c : Client) (p : Step) → RefinesHeard a c p → Refines c p
-done a c p r = record { does = r.does; fit = r.fit; holder = r.holder; requested = r.requested }
-
 lawful : (bs : List ℕ) (c : Client) → Lawful (understood bs c) c (lent bs) (hears bs c)
 unfolding hears understood
 lawful bs c =
@@ -195,7 +193,7 @@ lawful bs c =
 pub laws : (bs : List ℕ) (c : Client) → Laws bs c
 laws bs c =
     let k : Lawful (understood bs c) c (lent bs) (hears bs c) = lawful bs c in
-    record { tells = k.tells; in_order = k.in_order; refines = done (understood bs c) c (hears bs c) k.refines }
+    record { tells = k.tells; in_order = k.in_order; refines = k.refines.refines }
 
 pub laws_heard : (bs : List ℕ) (c : Client) → RefinesHeard (understood bs c) c (hears bs c)
 laws_heard bs c = (lawful bs c).refines

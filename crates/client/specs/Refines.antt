@@ -82,10 +82,7 @@ abbrev pub HeardIn : Answer → List Act → Type 0
 HeardIn (Ok m) ds = AllFrom m ds
 HeardIn (Err f) ds = ds ≡ []
 
--- a step is some of these, each from what was heard, and the requests put out are exactly theirs
+-- and each of them comes from what was heard
 pub record RefinesHeard (a : Answer) (c : Client) (p : Step) : Type 0 where
-  pub does : List Act
-  pub heard : HeardIn a does
-  pub fit : Fit p.client.state does c.state.holder
-  pub holder : p.client.state.holder ≡ acts does c.state.holder
-  pub requested : requests p.says ≡ sent does
+  pub refines : Refines c p
+  pub heard : HeardIn a refines.does

@@ -1,3 +1,5 @@
+ghost use Rattle.std.specs.Prelude.{◌≡◌, None};
+
 use crate::outside::Outside;
 use std::fs::File;
 use std::io;
@@ -17,7 +19,11 @@ pub struct FileOutside {
 }
 
 impl FileOutside {
-    pub fn new(file: File, out: Outbox) -> FileOutside {
+    pub fn new(file: File, out: Outbox) -> FileOutside
+        ensures file { result.file ≡ file }
+        ensures out { result.out ≡ out }
+        ensures failure { result.failure ≡ None }
+    {
         FileOutside {
             file,
             out,

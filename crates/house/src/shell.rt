@@ -1,7 +1,6 @@
-ghost use Rattle.std.specs.Prelude.{◌≡◌};
+ghost use Rattle.std.specs.Prelude.{◌≡◌, refl};
 ghost use Rattle.house.specs.Hearing.{Hears, Ran, Stops};
 ghost use Rattle.house.specs.Running.{ran_more};
-ghost use Rattle.std.proofs.Common.{rules};
 
 use crate::file::FileOutside;
 use crate::outside::Outside;
@@ -48,7 +47,7 @@ impl<O: Outside> Hearer for Shell<O> {
 
     ghost stopped = { λ a m b. Stops O.Outside.did m a.server a.outside b.server b.outside };
 
-    ghost stays = { Prim.search rules };
+    ghost stays = { λ _. (refl, refl) };
 
     ghost goes = { λ a b c ms m r q. ran_more O.Outside.did a.server b.server c.server a.outside b.outside c.outside ms m r q };
 

@@ -1,9 +1,13 @@
 #![tactic(auto)]
 
 // Examples of the lending core, run on values.
+ghost use Rattle.std.specs.Prelude.{◌≡◌};
+
 use lease::{Clock, Grant, Request};
 
-pub fn request(client: u32, nonce: u64, preferred: u16) -> Request {
+pub fn request(client: u32, nonce: u64, preferred: u16) -> Request
+    ensures { result ≡ record { client = client; nonce = nonce; preferred = preferred } }
+{
     Request {
         client,
         nonce,
@@ -11,7 +15,9 @@ pub fn request(client: u32, nonce: u64, preferred: u16) -> Request {
     }
 }
 
-pub fn grant(client: u32, nonce: u64, address: u16) -> Grant {
+pub fn grant(client: u32, nonce: u64, address: u16) -> Grant
+    ensures { result ≡ record { client = client; nonce = nonce; address = address } }
+{
     Grant {
         client,
         nonce,
