@@ -1,7 +1,7 @@
 ghost use Rattle.std.specs.Prelude.{◌≡◌, refl};
 ghost use Rattle.client.specs.Client.{fresh};
 ghost use Rattle.client.specs.Of.{client_of};
-ghost use Rattle.box_.specs.Hearing.{Hears, Ran};
+ghost use Rattle.box_.specs.Hearing.{Hears, Ran, Stops};
 ghost use Rattle.box_.specs.Running.{ran_more};
 
 use client::Client;
@@ -44,7 +44,7 @@ impl Shell {
 impl Hearer for Shell {
     ghost went = { λ a ms b. Ran ms (client_of a.client) a.out.bytes.items (client_of b.client) b.out.bytes.items };
 
-    ghost stopped = { λ _ _ _. Unit {0} };
+    ghost stopped = { λ a m b. Stops m (client_of a.client) a.out.bytes.items (client_of b.client) b.out.bytes.items };
 
     ghost stays = { λ _. (refl, refl) };
 

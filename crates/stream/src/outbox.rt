@@ -1,6 +1,6 @@
 ghost use Rattle.std.specs.Prelude.{◌≡◌, [], ◌++◌, is_ok, if◌then◌else◌, MatchResult};
 ghost use Rattle.stream.specs.declared.hearer.Stop.TheVariants.{NoMemory};
-ghost use Rattle.stream.specs.Said.{spoken, written};
+ghost use Rattle.stream.specs.Said.{spoken, written, SaidInPart};
 
 use crate::hearer::Stop;
 use std::alloc::Global;
@@ -36,7 +36,7 @@ impl Outbox {
 
     // Puts messages out in order; where the memory for one is wanting, none behind it.
     pub fn put_all(&mut self, messages: &[Message]) -> Result<(), Stop>
-        ensures { MatchResult result (λ _. self.new.bytes.items ≡ self.old.bytes.items ++ spoken messages.now) (λ e. e ≡ NoMemory) }
+        ensures { MatchResult result (λ _. self.new.bytes.items ≡ self.old.bytes.items ++ spoken messages.now) (λ e. (e ≡ NoMemory) × SaidInPart messages.now self.old.bytes.items self.new.bytes.items) }
     {
         for message in messages {
             if self.put(*message).is_err() {
