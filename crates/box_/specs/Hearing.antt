@@ -1,6 +1,7 @@
 -- What a client is, and what it put out, after one message and after several.
 -- Assumes nothing.
-use Rattle.std.specs.Prelude.{◌≡◌, ℕ, List, [], ◌∷◌, ◌++◌, ◌⊎◌, Ok, Err, Result}
+use Rattle.std.specs.Prelude.{◌≡◌, ℕ, List, ◌++◌, ◌⊎◌, Ok, Err, Result}
+use Rattle.std.specs.List.{FoldsTo}
 use Rattle.client.specs.Client.{Client, hears}
 use Rattle.stream.specs.Said.{spoken, SaidInPart}
 use Rattle.stream.specs.declared.hearer.Stop.{Stop}
@@ -20,5 +21,4 @@ Hears m c out (Err e) d more = Stops m c out d more
 
 -- one message after the other
 abbrev pub Ran : List (List ℕ) → Client → List ℕ → Client → List ℕ → Type 0
-Ran [] c out d more = (c ≡ d) × (out ≡ more)
-Ran (m ∷ ms) c out d more = (e : Client) × ((some : List ℕ) × (Heard m c out e some × Ran ms e some d more))
+Ran ms c out d more = FoldsTo {P = Client × List ℕ} (λ p m q. Heard m p.0 p.1 q.0 q.1) (c, out) ms (d, more)

@@ -6,9 +6,8 @@ ghost use Rattle.box_.specs.Running.{ran_more};
 
 use client::Client;
 use std::alloc::Global;
-use std::io;
 use stream::{Hearer, Outbox, Speaker, Stop};
-use wire::{Fault, Message};
+use wire::Message;
 
 // A client, and what it puts out.
 #[derive(Drop)]
@@ -29,14 +28,12 @@ impl Shell {
         }
     }
 
-    // The client hears a message, and what it says is put out in order.
+    // The client hears a message, and what it says is put out in order. The trait's clause is of runs; this one names the step.
     fn hear_one(&mut self, bytes: &[u8]) -> Result<(), Stop>
         ensures { Hears bytes.now (client_of self.old.client) self.old.out.bytes.items result (client_of self.new.client) self.new.out.bytes.items }
     {
         self.says.clear();
-        if self.client.hear(bytes, &mut self.says).is_err() {
-            return Err(Stop::NoMemory);
-        }
+        self.client.hear(bytes, &mut self.says)?;
         self.out.put_all(&self.says)
     }
 }
@@ -46,7 +43,7 @@ impl Hearer for Shell {
 
     ghost stopped = { λ a m b. Stops m (client_of a.client) a.out.bytes.items (client_of b.client) b.out.bytes.items };
 
-    ghost stays = { λ _. (refl, refl) };
+    ghost stays = { λ _. refl };
 
     ghost goes = { λ a b c ms m r q. ran_more (client_of a.client) (client_of b.client) (client_of c.client) a.out.bytes.items b.out.bytes.items c.out.bytes.items ms m r q };
 
@@ -56,11 +53,7 @@ impl Hearer for Shell {
 }
 
 impl Speaker for Shell {
-    fn tell_cut(&mut self) -> Result<(), Stop> {
-        self.out.put(Message::Fault(Fault::Malformed))
-    }
-
-    fn flush(&mut self) -> io::Result<()> {
-        self.out.flush()
+    fn outbox(&mut self) -> &mut Outbox {
+        &mut self.out
     }
 }

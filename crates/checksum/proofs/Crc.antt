@@ -73,9 +73,10 @@ unfolding run
 run_append s [] ys = refl
 run_append s (x ∷ xs) ys = run_append (step s x) xs ys
 
-pub run-push : (s : ℕ) (bs : List ℕ) (b : ℕ) → run s (bs ++ (b ∷ [])) ≡ step (run s bs) b
+-- a byte more
+pub run-more : (start : ℕ) (bs : List ℕ) (b s t : ℕ) → s ≡ run start bs → t ≡ step s b → t ≡ run start (bs ++ (b ∷ []))
 unfolding run
-run-push s bs b = run_append s bs (b ∷ [])
+run-more start bs b s t e f = f ∙ ap (λ (n : ℕ). step n b) e ∙ sym (run_append start bs (b ∷ []))
 
 pub xor_back : (x y : ℕ) → bit_xor (bit_xor x y) y ≡ x
 xor_back x y = xor_assoc x y y ∙ ap (bit_xor x) (xor_self y) ∙ xor_zero_r x

@@ -15,8 +15,7 @@ const ALL_ONES: u32 = 0xFFFF_FFFF;
 fn step(state: u32, byte: u8) -> u32
     ensures { result ≡ stepped state byte }
 {
-    let low = ((state ^ byte as u32) & 0xff) as usize;
-    entry(low) ^ (state >> 8)
+    entry(((state ^ byte as u32) & 0xff) as u8) ^ (state >> 8)
 }
 
 // The sum of a message that goes on with these bytes, from the sum of what came before.
@@ -24,10 +23,9 @@ pub fn crc32c_append(sum: u32, bytes: &[u8]) -> u32
     ensures value { result ≡ continued sum bytes.now }
     ensures joins { (before : List ℕ) → sum ≡ crc before → result ≡ crc (before ++ bytes.now) }
 {
-    let mut state = sum ^ ALL_ONES;
-    for byte in bytes {
-        state = step(state, *byte);
-    }
+    let state = bytes
+        .iter()
+        .fold(sum ^ ALL_ONES, |state, byte| step(state, *byte));
     state ^ ALL_ONES
 }
 

@@ -1,4 +1,4 @@
-ghost use Rattle.std.specs.Prelude.{◌≡◌, ◌<◌};
+ghost use Rattle.std.specs.Prelude.{◌≡◌};
 ghost use Rattle.checksum.specs.Crc.{bits};
 
 // What eight bits make of each byte.
@@ -37,9 +37,8 @@ const TABLE: [u32; 256] = [
     0x79B737BA, 0x8BDCB4B9, 0x988C474D, 0x6AE7C44E, 0xBE2DA0A5, 0x4C4623A6, 0x5F16D052, 0xAD7D5351,
 ];
 
-pub fn entry(byte: usize) -> u32
-    requires { byte < 256 }
+pub fn entry(byte: u8) -> u32
     ensures { result ≡ bits 8 byte }
 {
-    TABLE[byte]
+    TABLE[byte as usize]
 }

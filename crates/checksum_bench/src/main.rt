@@ -15,7 +15,7 @@ const RECORD: usize = 24;
 // The best of several rounds is the one that the machine's other work disturbed least.
 const ROUNDS: usize = 7;
 
-// One buffer of bytes that look drawn, from a linear congruential generator.
+// One buffer of bytes that look drawn: the numbers that the twin in plain Rust draws too.
 fn noise(heap: Global) -> Result<Vec<u8>, AllocError> {
     let mut bytes = Vec::new(heap);
     let mut state: u32 = 1;
@@ -28,11 +28,7 @@ fn noise(heap: Global) -> Result<Vec<u8>, AllocError> {
 
 // One message, the bytes again and again.
 fn whole(bytes: &[u8]) -> u32 {
-    let mut sum = 0;
-    for _ in 0..PASSES {
-        sum = crc32c_append(sum, bytes);
-    }
-    sum
+    (0..PASSES).fold(0, |sum, _| crc32c_append(sum, bytes))
 }
 
 // Records as a device has them, each pass cut from another byte on so that no pass repeats the last.
@@ -44,6 +40,15 @@ fn records(bytes: &[u8]) -> u32 {
         }
     }
     all
+}
+
+// The sum that a step gives, and the microseconds that it took.
+fn timed<F: FnOnce() -> u32>(rt: &HostRuntime, step: F) -> io::Result<(u32, u128)>
+    requires { F.IsAlwaysCallable step }
+{
+    let start = Instant::now(rt)?;
+    let sum = step();
+    Ok((sum, start.elapsed(rt)?.as_micros()))
 }
 
 fn print_sums(rt: &HostRuntime, bytes: &[u8]) -> io::Result<()> {
@@ -64,20 +69,22 @@ fn print_times(rt: &HostRuntime, bytes: &[u8]) -> io::Result<()> {
     let mut records_best = u128::MAX;
     let mut sums = 0;
     for _ in 0..ROUNDS {
-        let start = Instant::now(rt)?;
-        sums ^= whole(bytes);
-        whole_best = whole_best.min(start.elapsed(rt)?.as_micros());
-        let start = Instant::now(rt)?;
-        sums ^= records(bytes);
-        records_best = records_best.min(start.elapsed(rt)?.as_micros());
+        let (whole, whole_time) = timed(rt, || whole(bytes))?;
+        let (records, records_time) = timed(rt, || records(bytes))?;
+        whole_best = whole_best.min(whole_time);
+        records_best = records_best.min(records_time);
+        sums ^= whole ^ records;
     }
     println!(rt; "sums {sums:08x} whole {whole_best} records {records_best}")
 }
 
 fn main(rt: HostRuntime) -> io::Result<()> {
     let bytes = noise(rt.alloc())?;
-    match env::args(&rt)?.nth(1) {
-        Some(word) if word.as_str() == "time" => print_times(&rt, &bytes),
-        _ => print_sums(&rt, &bytes),
+    if env::args(&rt)?
+        .nth(1)
+        .is_some_and(|word| word.as_str() == "time")
+    {
+        return print_times(&rt, &bytes);
     }
+    print_sums(&rt, &bytes)
 }

@@ -3,13 +3,13 @@
 use Rattle.std.proofs.Common.{◌≡◌, ℕ, ◌+◌, ◌≤◌, Bool, true, false, ◌⊎◌, List, [], ◌∷◌, ◌++◌, Some, None, Option, sym, refl, ap, ◌∙◌, subst, inl, inr, ⊎_elim, arith}
 use Rattle.std.specs.Option.{option_map}
 use Rattle.std.proofs.lemmas.Bool.{both_ways}
+use Rattle.std.proofs.lemmas.Option.{same_Some, none-some}
 use Rattle.std.proofs.lemmas.List.{append_assoc}
 use Rattle.lease.specs.declared.message.Request as lent
 use Rattle.lease.specs.Holding.{Use}
 use Rattle.retry.specs.Run as retry
 use Rattle.retry.specs.Run.{Event, Starts, Ticks, Asks, Takes, Lawful}
 use Rattle.retry.specs.Pacing as pacing
-use Rattle.retry.proofs.Steps.{some_same, some-none}
 use Rattle.retry.proofs.Apart as apart
 use Rattle.retry.proofs.InTime as in-time
 use Rattle.client.specs.State.{in_use, until}
@@ -188,20 +188,20 @@ pub sixty_apart : SixtyApart
 sixty_apart before between one two u e f ns i = sixty before between one two e f u ns i
 
 -- A REQUEST AMONG THE EVENTS OF A STRETCH IS ONE OF THE CLIENT'S
-skip : (limit : ℕ) (base hs rest : List Event) → pacing.Never pacing.asks (rest ++ base) hs → pacing.AsksBy limit base (hs ++ rest) → pacing.AsksBy limit base rest
+skip : (limit : ℕ) (past hs rest : List Event) → pacing.Never pacing.asks (rest ++ past) hs → pacing.AsksBy limit past (hs ++ rest) → pacing.AsksBy limit past rest
 unfolding pacing.Never pacing.AsksBy
-skip limit base [] rest k a = a
-skip limit base (Starts t ∷ hs) rest k a = skip limit base hs rest k.1 a
-skip limit base (Ticks ∷ hs) rest k a = skip limit base hs rest k.1 a
-skip limit base (Asks ∷ hs) rest k a = absurd (both_ways true k.0 refl)
-skip limit base (Takes t s ∷ hs) rest k a = skip limit base hs rest k.1 a
+skip limit past [] rest k a = a
+skip limit past (Starts t ∷ hs) rest k a = skip limit past hs rest k.1 a
+skip limit past (Ticks ∷ hs) rest k a = skip limit past hs rest k.1 a
+skip limit past (Asks ∷ hs) rest k a = absurd (both_ways true k.0 refl)
+skip limit past (Takes t s ∷ hs) rest k a = skip limit past hs rest k.1 a
 
-peel : (limit : ℕ) (base : List Event) (rs : List lent.Request) (es : List Event) → pacing.AsksBy limit base (requesting rs ++ es) →
-    ((some rs ≡ true) × ((retry.client (es ++ base)).clock ≤ limit)) ⊎ pacing.AsksBy limit base es
+peel : (limit : ℕ) (past : List Event) (rs : List lent.Request) (es : List Event) → pacing.AsksBy limit past (requesting rs ++ es) →
+    ((some rs ≡ true) × ((retry.client (es ++ past)).clock ≤ limit)) ⊎ pacing.AsksBy limit past es
 unfolding pacing.AsksBy
-peel limit base [] es a = inr a
-peel limit base (r ∷ rs) es (inl l) = inl (refl, l)
-peel limit base (r ∷ rs) es (inr a) = inr a
+peel limit past [] es a = inr a
+peel limit past (r ∷ rs) es (inl l) = inl (refl, l)
+peel limit past (r ∷ rs) es (inr a) = inr a
 
 -- `tail` and `base` are the trace of the run before the stretch
 module _ (limit : ℕ) (base tail : List Event) (before : Run) (whole : trace before ≡ tail ++ base) where
@@ -235,8 +235,8 @@ module _ (limit : ℕ) (base tail : List Event) (before : Run) (whole : trace be
   in-stretch (b ∷ bs) a = ⊎_elim (λ k. inl (inl k)) (λ k. ⊎_elim (λ j. inl (inr j)) (λ j. inr j) (in-stretch bs k)) (in_step b bs a)
 
 used-until : (o : Option Use) (n : ℕ) → option_map until o ≡ Some n → (a : ℕ) × (o ≡ Some (record { address = a; until = n }))
-used-until None n e = absurd (some-none n e)
-used-until (Some u) n e = (u.address, ap (λ (k : ℕ). Some (record { address = u.address; until = k })) (some_same u.until n e))
+used-until None n e = absurd (none-some n e)
+used-until (Some u) n e = (u.address, ap (λ (k : ℕ). Some (record { address = u.address; until = k })) (same_Some u.until n e))
 
 never_requesting : (T : retry.Client → Event → Bool) (es : List Event) → ((x : retry.Client) → T x Asks ≡ false) → (rs : List lent.Request) → pacing.Never T es (requesting rs)
 unfolding pacing.Never
@@ -248,10 +248,10 @@ unfolding retry.client
 uses-taken a t es [] = refl
 uses-taken a t es (r ∷ rs) = refl
 
-some-asked : (limit : ℕ) (base : List Event) (rs : List lent.Request) → pacing.AsksBy limit base (requesting rs) → some rs ≡ true
+some-asked : (limit : ℕ) (past : List Event) (rs : List lent.Request) → pacing.AsksBy limit past (requesting rs) → some rs ≡ true
 unfolding pacing.AsksBy
-some-asked limit base [] a = absurd a
-some-asked limit base (r ∷ rs) a = refl
+some-asked limit past [] a = absurd a
+some-asked limit past (r ∷ rs) a = refl
 
 -- a grant taken by a step that may ask in its turn, and a stretch after it
 module _ (before between : Run) (grant : List ℕ) (a t : ℕ) (is : first grant (client before) ≡ Takes a t ∷ []) (minute : 60 ≤ t) where
@@ -278,7 +278,7 @@ module _ (before between : Run) (grant : List ℕ) (a t : ℕ) (is : first grant
 
   until-is : (u : Use) → (client (grant ∷ before)).state.holder.up ≡ true → in_use (client (grant ∷ before)).state ≡ Some u → a + t ≡ u.until
   until-is u up e =
-      some_same (a + t) u.until
+      same_Some (a + t) u.until
       (sym (uses-taken a t (trace before) rs) ∙ ap (λ (l : List Event). (retry.client l).uses) (sym from-grant)
       ∙ ap (λ (x : retry.Client). x.uses) (sym (tied (grant ∷ before) up)) ∙ ap (λ (o : Option Use). option_map until o) e)
 

@@ -185,7 +185,7 @@ answering c l (Ok m) e =
 answering c l (Err f) e = refusing c (Err f) refl f l e
 
 lawful : (bs : List ℕ) (c : Client) → Lawful (understood bs c) c (lent bs) (hears bs c)
-unfolding hears understood
+unfolding hears
 lawful bs c =
     let n : Option ℕ = option_map size c.state.settings in
     answering c (lent bs) (decoded reader.Client n bs) (answered-lends n (read bs))

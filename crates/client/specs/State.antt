@@ -1,6 +1,6 @@
 -- What a client knows but its nonces, and what each message makes of it before it asks.
 -- Assumes nothing: what can't be decoded is no message.
-use Rattle.std.specs.Prelude.{ℕ, ◌+◌, ◌^◌, Bool, true, false, cond, List, [], ◌∷◌, ◌++◌, Some, None, Ok, Err, Option, Result, ◌==◌, nat_le}
+use Rattle.std.specs.Prelude.{ℕ, ◌+◌, ◌^◌, true, false, cond, List, [], ◌∷◌, ◌++◌, Some, None, Ok, Err, Option, Result, ◌==◌, nat_le}
 use Rattle.std.specs.Option.{option_map}
 use Rattle.lease.specs.declared.fault.Fault as lease
 use Rattle.lease.specs.declared.fault.Fault.TheVariants.{Malformed, OtherClient, BadSettings, CountExhausted}
@@ -48,16 +48,16 @@ abbrev pub stops : Option Use → List Message
 stops None = []
 stops (Some u) = NoAddress ∷ []
 
--- nothing but settings and own number is left
-abbrev pub forgets : (clock : ℕ) (up : Bool) → State → State
-forgets clock up s = record { settings = s.settings; own = s.own; holder = knowing_nothing clock up; schedule = starting clock; last = None }
+-- it goes on as `h`: nothing but settings and own number is left, and it uses no address any more
+abbrev pub forgets : (h : world.Client) → State → Turn
+forgets h s = record { state = record { settings = s.settings; own = s.own; holder = h; schedule = starting h.clock; last = None }; says = stops (in_use s) }
 
 abbrev pub crashes : State → Turn
-crashes s = cond s.holder.up (record { state = forgets s.holder.clock false s; says = stops (in_use s) }) (silently s)
+crashes s = cond s.holder.up (forgets (knowing_nothing s.holder.clock false) s) (silently s)
 
 -- a restart without a crash before it is a crash that nobody announced
 abbrev pub restarts : (clock : ℕ) → State → Result Turn lease.Fault
-restarts clock s = cond (nat_le (2 ^ 63) clock) (Err CountExhausted) (Ok (record { state = forgets clock true s; says = stops (in_use s) }))
+restarts clock s = cond (nat_le (2 ^ 63) clock) (Err CountExhausted) (Ok (forgets (knowing_nothing clock true) s))
 
 -- its clock goes on by one, and with it an address may be over: then the schedule begins anew
 abbrev pub passes : State → Turn

@@ -1,16 +1,18 @@
-ghost use Rattle.std.specs.Prelude.{◌≡◌, ◌+◌, ◌<◌, ◌≤◌, true, ◌⊎◌, [], ◌++◌, drop, is_ok, if◌then◌else◌, vec_len, vec_capacity};
+ghost use Rattle.std.specs.Prelude.{◌≡◌, ◌+◌, ◌<◌, ◌≤◌, true, ◌⊎◌, [], ◌++◌, is_ok, if◌then◌else◌, vec_len, vec_capacity};
+ghost use Rattle.std.specs.VecDeque.{deque_len, deque_capacity};
 ghost use Rattle.std.specs.Option.{option_map};
 ghost use Rattle.lease.specs.Of.{settings_of, use_of};
-ghost use Rattle.client.specs.Of.{state_of, turn_of, step_of, client_of};
+ghost use Rattle.client.specs.Of.{state_of, step_of, client_of};
 ghost use Rattle.client.specs.State.{in_use, does};
 ghost use Rattle.client.specs.Laws.{Laws};
 ghost use Rattle.client.specs.Refines.{RefinesHeard};
 ghost use Rattle.client.specs.Client.{fresh, queued, goes_on, understood, hears, lends, lent};
 
 use crate::asking::Step;
-use crate::state::{State, Turn};
+use crate::state::State;
 use lease::{Clock, Settings, Use};
 use std::alloc::{AllocError, Global};
+use std::collections::VecDeque;
 use wire::{Message, Reader};
 
 // So many messages a client puts out at most in one step: it leaves an address, uses another and asks.
@@ -20,33 +22,20 @@ const MOST_MESSAGES: usize = 3;
 #[derive(Drop)]
 pub struct Client {
     pub(crate) state: State,
-    pub(crate) nonces: Vec<u64>,
+    pub(crate) nonces: VecDeque<u64>,
 }
 
-// Appends that the client stopped using an address, and then which one it took.
-fn put_turn(turn: Turn, out: &mut Vec<Message>)
-    requires { vec_len out.old + 2 ≤ vec_capacity out.old }
-    ensures items { out.new.items ≡ out.old.items ++ (turn_of turn).says }
-    ensures len { vec_len out.new ≤ vec_len out.old + 2 }
-    ensures capacity { vec_capacity out.new ≡ vec_capacity out.old }
-{
-    if turn.stopped {
-        out.push_reserved(Message::NoAddress);
-    }
-    if let Some(using) = turn.taken {
-        out.push_reserved(Message::InUse {
-            address: using.address,
-            until: using.until,
-        });
-    }
-}
-
-// Appends what a step puts out, in order.
+// Appends what a step puts out: that the client stopped using an address, which one it took, and its request.
 fn put(step: Step, out: &mut Vec<Message>)
     requires { vec_len out.old + 3 ≤ vec_capacity out.old }
     ensures { out.new.items ≡ out.old.items ++ (step_of step []).says }
 {
-    put_turn(step.turn, out);
+    if step.turn.left.is_some() {
+        out.push_reserved(Message::NoAddress);
+    }
+    if let Some(Use { address, until }) = step.turn.taken {
+        out.push_reserved(Message::InUse { address, until });
+    }
     if let Some(request) = step.request {
         out.push_reserved(Message::Request(request));
     }
@@ -59,7 +48,7 @@ impl Client {
     {
         Client {
             state: State::new(),
-            nonces: Vec::new(heap),
+            nonces: VecDeque::new(heap),
         }
     }
 
@@ -80,42 +69,32 @@ impl Client {
     pub fn is_up(&self) -> bool
         ensures { result ≡ (client_of self.now).state.holder.up }
     {
-        self.state.up
+        self.state.holder.is_up()
     }
 
     pub fn clock(&self) -> Clock
         ensures { result.ticks ≡ (client_of self.now).state.holder.clock }
     {
-        self.state.clock
+        self.state.holder.clock()
     }
 
     // The address in use.
     pub fn in_use(&self) -> Option<Use>
         ensures { option_map use_of result ≡ in_use (client_of self.now).state }
     {
-        self.state.holding.in_use()
+        self.state.in_use()
     }
 
     // A nonce is put behind the others.
     fn queue(&mut self, message: Message) -> Result<(), AllocError>
         ensures nonces { self.new.nonces.items ≡ (if is_ok result then queued message self.old.nonces.items else self.old.nonces.items) }
         ensures state { self.new.state ≡ self.old.state }
-        ensures succeeds { (lends message ≡ []) ⊎ (vec_len self.old.nonces < vec_capacity self.old.nonces) → is_ok result ≡ true }
+        ensures succeeds { (lends message ≡ []) ⊎ (deque_len self.old.nonces < deque_capacity self.old.nonces) → is_ok result ≡ true }
     {
         if let Message::Nonce { nonce } = message {
-            self.nonces.push(nonce)?;
+            self.nonces.push_back(nonce)?;
         }
         Ok(())
-    }
-
-    // The oldest nonce is used up.
-    fn use_up(&mut self)
-        ensures nonces { self.new.nonces.items ≡ drop 1 self.old.nonces.items }
-        ensures state { self.new.state ≡ self.old.state }
-    {
-        if !self.nonces.is_empty() {
-            self.nonces.remove(0);
-        }
     }
 
     // The message's nonce, if it has one, is among the others already.
@@ -128,7 +107,7 @@ impl Client {
             Ok(turn) => {
                 let step = turn.ask(&self.nonces);
                 if step.request.is_some() {
-                    self.use_up();
+                    self.nonces.pop_front();
                 }
                 self.state = step.turn.state;
                 put(step, out);
@@ -137,10 +116,14 @@ impl Client {
         }
     }
 
-    fn hear_bytes(&mut self, bytes: &[u8], out: &mut Vec<Message>) -> Result<(), AllocError>
+    // Hears one message's bytes, and appends what the client puts out then, in order. Without the memory for it, nothing changes.
+    #[tactic(auto, using(crate::proofs::Steps::laws_heard))]
+    pub fn hear(&mut self, bytes: &[u8], out: &mut Vec<Message>) -> Result<(), AllocError>
         ensures client { client_of self.new ≡ (if is_ok result then (hears bytes.now (client_of self.old)).client else client_of self.old) }
         ensures out { out.new.items ≡ (if is_ok result then out.old.items ++ (hears bytes.now (client_of self.old)).says else out.old.items) }
-        ensures succeeds { vec_len out.old + 3 ≤ vec_capacity out.old → (lent bytes.now ≡ []) ⊎ (vec_len self.old.nonces < vec_capacity self.old.nonces) → is_ok result ≡ true }
+        ensures succeeds { vec_len out.old + 3 ≤ vec_capacity out.old → (lent bytes.now ≡ []) ⊎ (deque_len self.old.nonces < deque_capacity self.old.nonces) → is_ok result ≡ true }
+        ensures laws { Laws bytes.now (client_of self.old) }
+        ensures heard { RefinesHeard (understood bytes.now (client_of self.old)) (client_of self.old) (hears bytes.now (client_of self.old)) }
     {
         out.reserve(MOST_MESSAGES)?;
         match Message::decode(Reader::Client, self.state.settings, bytes) {
@@ -151,16 +134,5 @@ impl Client {
             Err(malformed) => out.push_reserved(Message::Fault(malformed)),
         }
         Ok(())
-    }
-
-    // Hears one message's bytes, and appends what the client puts out then, in order. Without the memory for it, nothing changes.
-    pub fn hear(&mut self, bytes: &[u8], out: &mut Vec<Message>) -> Result<(), AllocError>
-        ensures client { client_of self.new ≡ (if is_ok result then (hears bytes.now (client_of self.old)).client else client_of self.old) }
-        ensures out { out.new.items ≡ (if is_ok result then out.old.items ++ (hears bytes.now (client_of self.old)).says else out.old.items) }
-        ensures succeeds { vec_len out.old + 3 ≤ vec_capacity out.old → (lent bytes.now ≡ []) ⊎ (vec_len self.old.nonces < vec_capacity self.old.nonces) → is_ok result ≡ true }
-        ensures laws { Laws bytes.now (client_of self.old) }
-        ensures heard { RefinesHeard (understood bytes.now (client_of self.old)) (client_of self.old) (hears bytes.now (client_of self.old)) }
-    {
-        self.hear_bytes(bytes, out)
     }
 }

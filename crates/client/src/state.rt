@@ -1,9 +1,11 @@
-ghost use Rattle.std.specs.Prelude.{◌≡◌, true, Some};
-ghost use Rattle.lease.specs.Of.{settings_of, map_ok};
+ghost use Rattle.std.specs.Prelude.{◌≡◌, true, Some, Ok};
+ghost use Rattle.std.specs.Option.{option_map};
+ghost use Rattle.lease.specs.Of.{settings_of, use_of, map_ok};
+ghost use Rattle.lease.specs.Stands.{client_of as holder_of};
 ghost use Rattle.client.specs.Of.{state_of, turn_of};
-ghost use Rattle.client.specs.State.{started, does, crashes, ticks as passed, restarts, learns, named, granted, grants, silently, forgets};
+ghost use Rattle.client.specs.State.{started, in_use, does, crashes, ticks as passed, restarts, learns, named, granted, grants, silently, forgets};
 
-use lease::{Clock, Fault, Grant, Holding, Settings, Use};
+use lease::{Clock, Fault, Grant, Holder, Settings, Use};
 use retry::Schedule;
 use wire::Message;
 
@@ -12,42 +14,40 @@ use wire::Message;
 pub struct State {
     pub(crate) settings: Option<Settings>,
     pub(crate) own: Option<u32>,
-    pub(crate) clock: Clock,
-    pub(crate) up: bool,
-    pub(crate) holding: Holding,
+    pub(crate) holder: Holder,
     pub(crate) schedule: Schedule,
     // the address that it had last since its start
     pub(crate) last: Option<u16>,
 }
 
-// What a message made of a client before it asks: whether it stopped using an address, and then the one that it took.
+// What a message made of a client before it asks: the address that it stopped using, and then the one that it took.
 #[derive(Clone, Copy)]
 pub struct Turn {
     pub(crate) state: State,
-    pub(crate) stopped: bool,
+    pub(crate) left: Option<Use>,
     pub(crate) taken: Option<Use>,
 }
 
 impl State {
-    // Up with this clock, knowing nothing.
-    fn starting(clock: Clock) -> State
-        ensures { state_of result ≡ started clock.ticks }
+    // Up with its clock at 0, knowing nothing.
+    pub fn new() -> State
+        ensures { state_of result ≡ started 0 }
     {
+        let clock = Clock::zero();
         State {
             settings: None,
             own: None,
-            clock,
-            up: true,
-            holding: Holding::Nothing,
+            holder: Holder::start(clock),
             schedule: Schedule::start(clock),
             last: None,
         }
     }
 
-    pub fn new() -> State
-        ensures { state_of result ≡ started 0 }
+    // The address in use.
+    pub(crate) fn in_use(self) -> Option<Use>
+        ensures { option_map use_of result ≡ in_use (state_of self) }
     {
-        State::starting(Clock::zero())
+        self.holder.holding().in_use()
     }
 
     fn silently(self) -> Turn
@@ -55,84 +55,74 @@ impl State {
     {
         Turn {
             state: self,
-            stopped: false,
+            left: None,
             taken: None,
         }
     }
 
-    // Nothing but settings and own number outlives a crash.
-    fn forgetting(self, clock: Clock, up: bool) -> State
-        ensures { state_of result ≡ forgets clock.ticks up (state_of self) }
+    // It goes on as this holder, which knows nothing: settings and own number stay, and an address in use is left.
+    fn forget(self, holder: Holder) -> Turn
+        ensures { turn_of result ≡ forgets (holder_of holder) (state_of self) }
     {
-        State {
-            settings: self.settings,
-            own: self.own,
-            up,
-            ..State::starting(clock)
+        Turn {
+            state: State {
+                holder,
+                schedule: Schedule::start(holder.clock()),
+                last: None,
+                ..self
+            },
+            left: self.in_use(),
+            taken: None,
         }
     }
 
     fn crash(self) -> Turn
         ensures { turn_of result ≡ crashes (state_of self) }
     {
-        if !self.up {
+        if !self.holder.is_up() {
             return self.silently();
         }
-        Turn {
-            state: self.forgetting(self.clock, false),
-            stopped: self.holding.in_use().is_some(),
-            taken: None,
-        }
+        self.forget(self.holder.crash())
     }
 
     // A restart without a crash before it is a crash that nobody announced.
     fn restart(self, ticks: u64) -> Result<Turn, Fault>
         ensures { map_ok turn_of result ≡ restarts ticks (state_of self) }
     {
-        let clock = Clock::at(ticks)?;
-        Ok(Turn {
-            state: self.forgetting(clock, true),
-            stopped: self.holding.in_use().is_some(),
-            taken: None,
-        })
+        let clock = Clock::try_from(ticks)?;
+        Ok(self.forget(Holder::start(clock)))
     }
 
     // While it is down its clock stands.
     fn tick(self) -> Result<Turn, Fault>
         ensures { map_ok turn_of result ≡ passed (state_of self) }
     {
-        if !self.up {
+        if !self.holder.is_up() {
             return Ok(self.silently());
         }
-        let clock = self.clock.after(1)?;
-        let holding = self.holding.tick(clock);
-        let later = State {
-            clock,
-            holding,
-            ..self
-        };
-        match self.holding.in_use() {
-            Some(using) if clock.ticks() > using.until => Ok(Turn {
-                state: State {
-                    schedule: self.schedule.expired(clock),
-                    ..later
-                },
-                stopped: true,
-                taken: None,
-            }),
-            _ => Ok(later.silently()),
-        }
+        let holder = self.holder.pass(1)?;
+        let clock = holder.clock();
+        let left = self.in_use().filter(|using| clock.ticks() > using.until);
+        let schedule = left.map_or(self.schedule, |_| self.schedule.expired(clock));
+        Ok(Turn {
+            state: State {
+                holder,
+                schedule,
+                ..self
+            },
+            left,
+            taken: None,
+        })
     }
 
-    fn learn(self, addresses: u16, term: u32, skew: u16) -> Result<Turn, Fault>
-        ensures { map_ok turn_of result ≡ learns addresses term skew (state_of self) }
+    fn learn(self, settings: Settings) -> Turn
+        ensures { Ok (turn_of result) ≡ learns settings.addresses settings.term settings.skew (state_of self) }
     {
-        let settings = Settings::new(addresses, term, skew)?;
         let knowing = State {
             settings: Some(settings),
             ..self
         };
-        Ok(knowing.silently())
+        knowing.silently()
     }
 
     // It has one number for ever.
@@ -151,30 +141,21 @@ impl State {
 
     // The grant is for the request that waits: its address is used for a term from the asking on.
     fn take(self, settings: Settings, own: u32, grant: Grant) -> Result<Turn, Fault>
-        requires { self.up ≡ true }
+        requires { (state_of self).holder.up ≡ true }
         ensures { map_ok turn_of result ≡ granted (Some own) (Some (settings_of settings)) grant (state_of self) }
     {
         let term = settings.term();
-        let holding = self.holding.take(term, self.clock, own, grant)?;
-        let Some(wait) = self.holding.waiting() else {
-            return Err(Fault::NotWaiting);
-        };
-        let left = match self.holding.in_use() {
-            Some(using) => using.address != grant.address,
-            None => false,
-        };
+        let holder = self.holder.hear(term, own, grant)?;
+        let wait = self.holder.holding().waiting().ok_or(Fault::NotWaiting)?;
         Ok(Turn {
             state: State {
-                holding,
+                holder,
                 schedule: self.schedule.granted(wait.asked, term),
                 last: Some(grant.address),
                 ..self
             },
-            stopped: left,
-            taken: Some(Use {
-                address: grant.address,
-                until: wait.asked.ticks() + u64::from(term),
-            }),
+            left: self.in_use().filter(|using| using.address != grant.address),
+            taken: holder.holding().in_use(),
         })
     }
 
@@ -182,15 +163,11 @@ impl State {
     fn hear_grant(self, grant: Grant) -> Result<Turn, Fault>
         ensures { map_ok turn_of result ≡ grants grant (state_of self) }
     {
-        if !self.up {
+        if !self.holder.is_up() {
             return Ok(self.silently());
         }
-        let Some(own) = self.own else {
-            return Err(Fault::OtherClient);
-        };
-        let Some(settings) = self.settings else {
-            return Err(Fault::BadSettings);
-        };
+        let own = self.own.ok_or(Fault::OtherClient)?;
+        let settings = self.settings.ok_or(Fault::BadSettings)?;
         self.take(settings, own, grant)
     }
 
@@ -203,17 +180,15 @@ impl State {
                 addresses,
                 term,
                 skew,
-            } => self.learn(addresses, term, skew),
+            } => Ok(self.learn(Settings::new(addresses, term, skew)?)),
             Message::OwnNumber { client } => self.name(client),
             Message::Nonce { .. } => Ok(self.silently()),
             Message::Tick => self.tick(),
             Message::Crash => Ok(self.crash()),
             Message::Restart { clock } => self.restart(clock),
             Message::Grant(grant) => self.hear_grant(grant),
-            Message::Request(_) => Err(Fault::Malformed),
-            Message::InUse { .. } => Err(Fault::Malformed),
-            Message::NoAddress => Err(Fault::Malformed),
-            Message::Fault(_) => Err(Fault::Malformed),
+            Message::Request(_) | Message::InUse { .. } | Message::NoAddress | Message::Fault(_) =>
+                Err(Fault::Malformed),
         }
     }
 }

@@ -1,6 +1,3 @@
-ghost use Rattle.std.specs.Prelude.{◌<◌, IfOk};
-
-use anyhow::anyhow;
 use std::alloc::Global;
 
 // A message's bytes, and how often it is heard.
@@ -11,47 +8,13 @@ pub struct Line {
 }
 
 impl Line {
+    // Two digits to a byte, wherever spaces stand, and behind a star how often. It is no `FromStr`, to which no allocator is lent.
     pub fn of(heap: Global, text: &str) -> anyhow::Result<Line> {
-        let (digits, times) = match text.split_once('*') {
-            Some((digits, count)) => (digits, count.trim().parse::<u32>()?),
-            None => (text, 1),
-        };
+        let (digits, times) = text.split_once('*').unwrap_or((text, "1"));
+        let digits: String = digits.split(' ').collect(heap)?;
         Ok(Line {
-            bytes: bytes_of(heap, digits)?,
-            times,
+            bytes: hex::decode(heap, digits)?,
+            times: times.trim().parse()?,
         })
     }
-}
-
-fn digit_of(byte: u8) -> anyhow::Result<u8>
-    ensures { IfOk result (λ d. d < 16) }
-{
-    match byte {
-        b'0'..=b'9' => Ok(byte - b'0'),
-        b'a'..=b'f' => Ok(byte - b'a' + 10),
-        _ => Err(anyhow!("no hexadecimal digit")),
-    }
-}
-
-// Two digits to a byte, wherever spaces stand.
-fn bytes_of(heap: Global, text: &str) -> anyhow::Result<Vec<u8>> {
-    let mut bytes = Vec::new(heap);
-    let mut half = None;
-    for byte in text.bytes() {
-        if byte == b' ' {
-            continue;
-        }
-        let digit = digit_of(byte)?;
-        half = match half {
-            None => Some(digit),
-            Some(high) => {
-                bytes.push(high << 4 | digit)?;
-                None
-            }
-        };
-    }
-    if half.is_some() {
-        return Err(anyhow!("half a byte"));
-    }
-    Ok(bytes)
 }

@@ -25,10 +25,8 @@ const SCRIPTS: [&str; 10] = [
 fn print_message(rt: &HostRuntime, message: Message) -> anyhow::Result<()> {
     let mut framed = Vec::new(rt.alloc());
     message.encode(&mut framed)?;
-    print!(rt; " ")?;
-    for byte in framed.iter().skip(1) {
-        print!(rt; "{byte:02x}")?;
-    }
+    let text = hex::encode(rt.alloc(), framed.get(1..).unwrap_or(&[]))?;
+    print!(rt; " {text}")?;
     Ok(())
 }
 
@@ -40,8 +38,8 @@ fn hear(rt: &HostRuntime, client: &mut Client, bytes: &[u8], turn: u32) -> anyho
         return Ok(());
     }
     print!(rt; " [{turn}]")?;
-    for message in out.iter() {
-        print_message(rt, *message)?;
+    for message in out {
+        print_message(rt, message)?;
     }
     Ok(())
 }
@@ -50,27 +48,23 @@ fn play(rt: &HostRuntime, name: &str) -> anyhow::Result<()> {
     println!(rt; "{name}")?;
     let text = fs::read_to_string(rt, name)?;
     let mut client = Client::new(rt.alloc());
-    for text in text.as_str().lines() {
-        if text.is_empty() || text.starts_with('#') {
-            continue;
-        }
+    let messages = text
+        .lines()
+        .filter(|text| !text.is_empty() && !text.starts_with('#'));
+    for text in messages {
         let line = Line::of(rt.alloc(), text)?;
         print!(rt; "{text}:")?;
-        for turn in 0..line.times {
-            hear(rt, &mut client, line.bytes.as_slice(), turn + 1)?;
+        for turn in 1..=line.times {
+            hear(rt, &mut client, &line.bytes, turn)?;
         }
         println!(rt; "")?;
     }
     Ok(())
 }
 
-fn run(rt: &HostRuntime) -> anyhow::Result<()> {
+fn main(rt: HostRuntime) -> anyhow::Result<()> {
     for name in SCRIPTS {
-        play(rt, name)?;
+        play(&rt, name)?;
     }
     Ok(())
-}
-
-fn main(rt: HostRuntime) -> anyhow::Result<()> {
-    run(&rt)
 }

@@ -1,10 +1,11 @@
 #![tactic(auto)]
 
 // Plays a built-in run of a server and three clients, and prints at each tick of the server who uses what.
-use anyhow::anyhow;
+use anyhow::Context;
 use lease::{Found, Settings};
-use simulation::{Event, Interrupted, Simulation, Stop};
+use simulation::{Event, Interrupted, Simulation};
 use std::alloc::{AllocError, Global};
+use std::fmt::Write;
 
 const ADDRESSES: u16 = 2;
 
@@ -16,18 +17,16 @@ const CLIENTS: u8 = 4;
 
 const LAST_TICK: u64 = 220;
 
-// What each clock goes on by in one tick of the server: all alike, or all but the second client's, which stands still.
-const TICKS: [u64; 8] = [1, 1, 1, 1, 1, 1, 0, 1];
+// What each client's clock goes on by in one tick of the server: all alike, or all but the second client's, which stands still.
+const ALIKE: [u64; 4] = [1, 1, 1, 1];
 
-const ALIKE: usize = 0;
-
-const SECOND_STANDS: usize = 4;
+const SECOND_STANDS: [u64; 4] = [1, 1, 0, 1];
 
 // An event that follows a tick of the server.
 #[derive(Clone, Copy)]
 struct Scheduled {
     tick: u64,
-    event: Event,
+    event: Event<'static>,
 }
 
 const NONE_PREFERRED: u16 = ADDRESSES;
@@ -253,50 +252,36 @@ const RUN: [Scheduled; 34] = [
 ];
 
 // The second client's clock stands still three times, within the skew.
-fn row_at(tick: u64) -> usize {
-    if tick == 20 || tick == 21 || tick == 22 {
+fn ticks_at(tick: u64) -> [u64; 4] {
+    if (20..=22).contains(&tick) {
         SECOND_STANDS
     } else {
         ALIKE
     }
 }
 
-fn stopped(stop: Stop) -> anyhow::Error {
-    match stop {
-        Stop::CountExhausted => anyhow!("a clock would reach 2^63"),
-        Stop::NoSuchClient => anyhow!("no such client"),
-        Stop::NoMemory => anyhow!("out of memory"),
-    }
-}
-
-// The events of one tick: time passes, and what follows it.
-fn happens(heap: Global, tick: u64) -> Result<Vec<Event>, AllocError> {
-    let mut events = Vec::new(heap);
-    for scheduled in RUN {
-        if scheduled.tick == tick {
-            events.push(scheduled.event)?;
-        }
-    }
-    Ok(events)
+// The events that follow a tick.
+fn happens(heap: Global, tick: u64) -> Result<Vec<Event<'static>>, AllocError> {
+    RUN.iter()
+        .filter(|scheduled| scheduled.tick == tick)
+        .map(|scheduled| scheduled.event)
+        .collect(heap)
 }
 
 // Who uses what, as `12: 1 uses 0, 3 uses 5`, or `12: nobody`.
+// printing has these words too, but stands above server, client and journal, which the demonstration doesn't need.
 fn shown(heap: Global, simulation: &Simulation) -> Result<String, AllocError> {
-    let clock = simulation.clock();
-    let mut line = format!(in heap; "{clock}: ")?;
-    let mut users = false;
+    let mut line = format!(in heap; "{}: ", simulation.clock())?;
+    let mut separator = "";
+    // Clients are asked for by number, and the number is printed.
     for client in 0..simulation.clients() {
         if let Some(using) = simulation.in_use(client) {
             let address = using.address;
-            if users {
-                line.push_str(", ")?;
-            }
-            let part = format!(in heap; "{client} uses {address}")?;
-            line.push_str(part.as_str())?;
-            users = true;
+            write!(line, "{separator}{client} uses {address}")?;
+            separator = ", ";
         }
     }
-    if !users {
+    if separator.is_empty() {
         line.push_str("nobody")?;
     }
     Ok(line)
@@ -304,23 +289,18 @@ fn shown(heap: Global, simulation: &Simulation) -> Result<String, AllocError> {
 
 fn run(rt: &HostRuntime) -> anyhow::Result<()> {
     let heap = rt.alloc();
-    let Ok(settings) = Settings::new(ADDRESSES, TERM, SKEW) else {
-        return Err(anyhow!("settings out of range"));
-    };
+    let settings = Settings::new(ADDRESSES, TERM, SKEW)
+        .ok()
+        .context("settings out of range")?;
     let mut simulation = Simulation::new(heap, settings, CLIENTS)?;
     for tick in 1..=LAST_TICK {
-        let pass = [Event::Pass {
+        let ticks = ticks_at(tick);
+        simulation.play(&[Event::Pass {
             server: 1,
-            row: row_at(tick),
-        }];
-        if let Err(stop) = simulation.play(&pass, &TICKS) {
-            return Err(stopped(stop));
-        }
+            ticks: &ticks,
+        }])?;
         println!(rt; "{}", shown(heap, &simulation)?)?;
-        let events = happens(heap, tick)?;
-        if let Err(stop) = simulation.play(&events, &TICKS) {
-            return Err(stopped(stop));
-        }
+        simulation.play(&happens(heap, tick)?)?;
     }
     Ok(())
 }

@@ -5,7 +5,6 @@ use anyhow::anyhow;
 use printing::{Printer, is_two};
 use replay::{Stopped, play};
 use std::fs;
-use std::io::Write;
 use system::Line;
 use text::{Form, Report, read_text};
 
@@ -29,15 +28,12 @@ fn bytes_of(rt: &HostRuntime, name: &str) -> anyhow::Result<Vec<u8>> {
 
 fn show_report(rt: &HostRuntime, name: &str, report: &[Line]) -> anyhow::Result<()> {
     let mut printer = Printer::new(rt.alloc());
-    let mut status = 0u8;
     for line in report {
         printer.put(*line)?;
-        if is_two(*line) {
-            status = 1;
-        }
     }
+    let status = u8::from(report.iter().any(|line| is_two(*line)));
     println!(rt; "== {name}, status {status}")?;
-    rt.stdout().write_all(&printer.text()?)?;
+    print!(rt; "{}", printer.text()?)?;
     Ok(())
 }
 
@@ -46,21 +42,19 @@ fn play_case(rt: &HostRuntime, name: &str) -> anyhow::Result<()> {
     let mut report = Vec::new(rt.alloc());
     match play(rt.alloc(), &script, &mut report) {
         Ok(()) => show_report(rt, name, &report),
-        Err(Stopped::Script { at }) => {
+        Err(Stopped::NoMemory) => Err(Stopped::NoMemory.into()),
+        Err(stopped) => {
             println!(rt; "== {name}, status 1")?;
-            println!(rt; "script: fault 1 at byte {at}")?;
+            println!(rt; "{stopped}")?;
             Ok(())
         }
-        Err(Stopped::NoMemory) => Err(anyhow!("out of memory")),
     }
 }
 
 fn run(rt: &HostRuntime) -> anyhow::Result<()> {
     let list = fs::read_to_string(rt, "list.txt")?;
-    for name in list.as_str().lines() {
-        if !name.is_empty() {
-            play_case(rt, name)?;
-        }
+    for name in list.as_str().lines().filter(|name| !name.is_empty()) {
+        play_case(rt, name)?;
     }
     Ok(())
 }

@@ -1,11 +1,11 @@
 -- One thing done after the other.
-use Rattle.std.proofs.Common.{◌≡◌, ℕ, zero, suc, ◌+◌, ◌<◌, Bool, true, false, cond, List, [], ◌∷◌, ◌++◌, length, get_or, take, drop, Some, None, Ok, Err, Result, sym, refl, ap, ◌∙◌, subst, inl, inr, add-one, arith}
+use Rattle.std.proofs.Common.{◌≡◌, ℕ, zero, suc, ◌+◌, ◌<◌, List, [], ◌∷◌, ◌++◌, length, get_or, take, drop, Ok, Err, Result, sym, refl, ap, ◌∙◌, subst, inl, inr, add-one, arith}
 use Rattle.std.proofs.lemmas.List.{append-nil, append_assoc, flat_map_more, take-append-drop, take_more}
+use Rattle.std.proofs.lemmas.List.Concat.{flat_map-append}
 use Rattle.std.proofs.lemmas.Bool.{cases_eq}
-use Rattle.std.specs.List.{flat_map}
 use Rattle.server.specs.declared.effect.Effect.{Effect}
 use Rattle.stream.specs.declared.hearer.Stop.{Stop}
-use Rattle.house.specs.Acts.{Act, Bytes, saved, saves, acts, acts_of, Grows, Partly, Does}
+use Rattle.house.specs.Acts.{Act, Wrote, Synced, Bytes, saved, saves, acts, acts_of, Grows, Partly, Does}
 
 pub nothing : {O : Type 0} (did : O → List Act → Type 0) (a : O) → Grows did a [] a
 nothing did a before h = subst (did a) (sym (append-nil before)) h
@@ -42,11 +42,6 @@ pub does-next : {O : Type 0} (did : O → List Act → Type 0) (a b c : O) (xs y
 does-next did a b c xs ys (Ok x) g d = more did a b c xs ys g d
 does-next did a b c xs ys (Err e) g d = fails-later did a b c xs ys g d
 
--- the bytes of a place that there is
-pub placed : (b : Bool) (x y : List ℕ) → Some y ≡ cond b (Some x) None → y ≡ x
-placed true x y e = cc
-placed false x y e = let z : ◌≡◌ {A = ℕ} 0 1 = cc in absurd (omega arith)
-
 -- the first places were saved, and the next was not: so much for all of them
 pub saves_fail : {O : Type 0} (did : O → List Act → Type 0) (a b : O) (p : Bytes) (f i n : ℕ) → i < n → Partly did a (saves p f (suc i)) b → Partly did a (saves p f n) b
 unfolding saves
@@ -71,20 +66,16 @@ pub saves-none : {O : Type 0} (did : O → List Act → Type 0) (a : O) (p : Byt
 unfolding saves
 saves-none did a p f = nothing did a
 
+-- where there is something to save, none of it
+pub saves_unbegun : {O : Type 0} (did : O → List Act → Type 0) (a : O) (p : Bytes) (f n : ℕ) → 0 < n → Partly did a (saves p f n) a
+unfolding saves
+saves_unbegun did a p f n l = saves_fail did a a p f 0 n l (unbegun did a (Wrote (f + 0) (p (f + 0))) (Synced ∷ []))
+
 acts-next : (p : Bytes) (es : List Effect) (i : ℕ) (d : Effect) → i < length es → acts p (take (i + 1) es) ≡ acts p (take i es) ++ acts_of p (get_or es i d)
 acts-next p es i d h = ap (acts p) (take_more es i d h) ∙ sym (flat_map_more (acts_of p) [] (take i es) (get_or es i d))
 
-joined_both : {X A : Type 0} (f : X → List A) (xs ys : List X) → flat_map f (xs ++ ys) ≡ flat_map f xs ++ flat_map f ys
-joined_both f [] ys = refl
-joined_both f (x ∷ xs) ys = ap (λ z. f x ++ z) (joined_both f xs ys) ∙ sym (append_assoc (f x) (flat_map f xs) (flat_map f ys))
-
 acts-split : (p : Bytes) (es : List Effect) (n : ℕ) → acts p es ≡ acts p (take n es) ++ acts p (drop n es)
-acts-split p es n = ap (acts p) (sym (take-append-drop n es)) ∙ joined_both (acts_of p) (take n es) (drop n es)
-
-pub acts-more : {O : Type 0} (did : O → List Act → Type 0) (a b c : O) (p : Bytes) (es : List Effect) (i : ℕ) (d : Effect) → i < length es
-    → Grows did a (acts p (take i es)) b → Grows did b (acts_of p (get_or es i d)) c → Grows did a (acts p (take (i + 1) es)) c
-acts-more did a b c p es i d l g h =
-    subst (λ xs. Grows did a xs c) (sym (acts-next p es i d l)) (more did a b c (acts p (take i es)) (acts_of p (get_or es i d)) g h)
+acts-split p es n = ap (acts p) (sym (take-append-drop n es)) ∙ flat_map-append (acts_of p) (take n es) (drop n es)
 
 pub acts_stop : {O : Type 0} (did : O → List Act → Type 0) (a b c : O) (p : Bytes) (es : List Effect) (i : ℕ) (d : Effect) → i < length es
     → Grows did a (acts p (take i es)) b → Partly did b (acts_of p (get_or es i d)) c → Partly did a (acts p es) c

@@ -30,7 +30,7 @@ saves p f zero = []
 saves p f (suc n) = saves p f n ++ saved p (f + n)
 
 abbrev pub acts_of : Bytes → Effect → List Act
-acts_of p (Persist f n) = saves p f n
+acts_of p (Persist w) = saves p w.first w.count
 acts_of p (Send m) = Sent m ∷ []
 
 abbrev pub acts : Bytes → List Effect → List Act

@@ -1,6 +1,7 @@
 -- What a server does outside as it hears one message after the other.
 -- Assumes nothing.
-use Rattle.std.specs.Prelude.{◌≡◌, ℕ, ◌⊎◌, List, [], ◌∷◌, Ok, Err, Result}
+use Rattle.std.specs.Prelude.{◌≡◌, ℕ, ◌⊎◌, List, Ok, Err, Result}
+use Rattle.std.specs.List.{FoldsTo}
 use Rattle.server.specs.Of.{state_of}
 use Rattle.server.specs.Server.{hears}
 use Rattle.server.specs.declared.server.Server.{Server}
@@ -30,5 +31,4 @@ Hears did m s a (Err e) t b = Stops did m s a t b
 
 -- one message after the other
 abbrev pub Ran : {O : Type 0} → (O → List Act → Type 0) → Server → O → List (List ℕ) → Server → O → Type 0
-Ran {O} did s a [] t b = (s ≡ t) × (a ≡ b)
-Ran {O} did s a (m ∷ ms) t b = (u : Server) × ((c : O) × (Heard did m s a u c × Ran did u c ms t b))
+Ran {O} did s a ms t b = FoldsTo {P = Server × O} (λ p m q. Heard did m p.0 p.1 q.0 q.1) (s, a) ms (t, b)

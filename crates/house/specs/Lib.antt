@@ -1,3 +1,4 @@
 pub mod Acts
+pub mod Device
 pub mod Hearing
 pub mod Running

@@ -1,20 +1,42 @@
-use journal::{Journal, OpenError, device_bytes, device_places};
-use std::alloc::Global;
+ghost use Rattle.std.specs.Prelude.{◌≡◌, IfOk};
+ghost use Rattle.house.specs.Device.{unusable_by};
+ghost use Rattle.house.specs.declared.device.Unusable.TheVariants.{NoMemory};
+ghost use Rattle.journal.specs.Memory.{HasRead};
+
+use journal::{Journal, OpenError, device_bytes};
+use std::alloc::AllocError;
 use std::fs::{File, OpenOptions};
 use std::io;
 use std::io::Read;
+use thiserror::Error;
 
 // Why a device can't be used.
-#[derive(Clone, Copy)]
+#[derive(Debug, Clone, Copy, Error)]
 pub enum Unusable {
-    Failed(io::Error),
+    #[error("{0}")]
+    Failed(#[from] io::Error),
+    #[error("a device has 229376 bytes")]
     WrongLength,
+    #[error("out of memory")]
     NoMemory,
 }
 
-impl From<io::Error> for Unusable {
-    fn from(e: io::Error) -> Unusable {
-        Unusable::Failed(e)
+impl From<AllocError> for Unusable {
+    ghost from_gives = { λ _ why. why ≡ NoMemory };
+
+    fn from(_: AllocError) -> Unusable {
+        Unusable::NoMemory
+    }
+}
+
+impl From<OpenError> for Unusable {
+    ghost from_gives = { λ error why. why ≡ unusable_by error };
+
+    fn from(error: OpenError) -> Unusable {
+        match error {
+            OpenError::WrongLength => Unusable::WrongLength,
+            OpenError::NoRoom => Unusable::NoMemory,
+        }
     }
 }
 
@@ -27,24 +49,13 @@ fn open_file(rt: &HostRuntime, path: &str) -> Result<File, Unusable> {
     Ok(file)
 }
 
-fn read_all(heap: Global, file: &mut File) -> Result<Journal, Unusable> {
-    let Ok(mut bytes) = vec![in heap; 0u8; device_bytes()] else {
-        return Err(Unusable::NoMemory);
-    };
-    file.read_exact(&mut bytes)?;
-    let Ok(room) = Vec::with_capacity(heap, device_places()) else {
-        return Err(Unusable::NoMemory);
-    };
-    match Journal::open(room, &bytes) {
-        Ok(journal) => Ok(journal),
-        Err(OpenError::WrongLength) => Err(Unusable::WrongLength),
-        Err(OpenError::NoRoom) => Err(Unusable::NoMemory),
-    }
-}
-
-// The device's file and what it holds.
-pub fn open(rt: &HostRuntime, path: &str) -> Result<(File, Journal), Unusable> {
+// The device's file and what it holds. Nothing is said of what a file system reads.
+pub fn open(rt: &HostRuntime, path: &str) -> Result<(File, Journal), Unusable>
+    ensures { IfOk result (λ opened. HasRead opened.1) }
+{
     let mut file = open_file(rt, path)?;
-    let journal = read_all(rt.alloc(), &mut file)?;
+    let mut bytes = vec![in rt.alloc(); 0; device_bytes()]?;
+    file.read_exact(&mut bytes)?;
+    let journal = Journal::read(rt.alloc(), &bytes)?;
     Ok((file, journal))
 }

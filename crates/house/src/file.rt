@@ -3,7 +3,7 @@ ghost use Rattle.std.specs.Prelude.{◌≡◌, None};
 use crate::outside::Outside;
 use std::fs::File;
 use std::io;
-use std::io::{Seek, SeekFrom, Write};
+use std::io::{ErrorKind, Seek, SeekFrom, Write};
 use stream::{Outbox, Stop};
 use wire::Message;
 
@@ -14,7 +14,7 @@ const PLACE_BYTES: u64 = 28;
 pub struct FileOutside {
     file: File,
     pub(crate) out: Outbox,
-    // why the file could not be written
+    // why the file could not be written: a Stop is compared in clauses, and an io::Error is no value that they can compare
     pub(crate) failure: Option<io::Error>,
 }
 
@@ -31,21 +31,20 @@ impl FileOutside {
         }
     }
 
+    // Why it failed stands here, beside the Stop.
     fn noted(&mut self, res: io::Result<()>) -> Result<(), Stop> {
-        match res {
-            Ok(()) => Ok(()),
-            Err(e) => {
-                self.failure = Some(e);
-                Err(Stop::NotSaved)
-            }
-        }
+        res.map_err(|e| {
+            self.failure = Some(e);
+            Stop::NotSaved
+        })
     }
 }
 
 fn write_at(file: &mut File, place: usize, bytes: &[u8]) -> io::Result<()> {
-    let Some(at) = PLACE_BYTES.checked_mul(place as u64) else {
-        return Err(io::Error::new(io::ErrorKind::InvalidInput, "no such place"));
-    };
+    let at = PLACE_BYTES.checked_mul(place as u64).ok_or_else(|| io::Error::new(
+        ErrorKind::InvalidInput,
+        "no such place",
+    ))?;
     file.seek(SeekFrom::Start(at))?;
     file.write_all(bytes)
 }

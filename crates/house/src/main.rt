@@ -21,78 +21,57 @@ A server of addresses: hears messages on standard input and answers on standard 
 DEVICE is the file of its lease table, 229376 bytes; make a new one with
     head -c 229376 /dev/zero > DEVICE";
 
-// The program ends with status 1; why is told already.
-#[derive(Clone, Copy)]
-struct Ended;
-
-impl From<io::Error> for Ended {
-    fn from(_: io::Error) -> Ended {
-        Ended
-    }
-}
-
 // How to make a device is told only where there is none.
 fn tell_unusable(rt: &HostRuntime, path: &str, why: Unusable) -> io::Result<()> {
     match why {
-        Unusable::Failed(e) => {
-            eprintln!(rt; "house: {path}: {e}")?;
-            if e.kind() != ErrorKind::NotFound {
-                return Ok(());
-            }
+        Unusable::NoMemory => return eprintln!(rt; "house: {why}"),
+        Unusable::Failed(e) if e.kind() != ErrorKind::NotFound => {
+            return eprintln!(rt; "house: {path}: {why}");
         }
-        Unusable::WrongLength => eprintln!(rt; "house: {path}: a device has 229376 bytes")?,
-        Unusable::NoMemory => return eprintln!(rt; "house: out of memory"),
+        _ => eprintln!(rt; "house: {path}: {why}")?,
     }
     eprintln!(rt; "house: make a new device with: head -c 229376 /dev/zero > {path}")
 }
 
-fn tell_halt(rt: &HostRuntime, failure: Option<io::Error>, halt: Halt) -> io::Result<()> {
-    match halt {
-        Halt::Stopped(Stop::NoMemory) => eprintln!(rt; "house: out of memory"),
-        Halt::Stopped(Stop::NotSaved) => match failure {
-            Some(e) => eprintln!(rt; "house: a lease can't be saved: {e}"),
-            None => eprintln!(rt; "house: a lease can't be saved"),
-        },
-        Halt::Input(e) => eprintln!(rt; "house: standard input: {e}"),
-        Halt::Output(e) => eprintln!(rt; "house: standard output: {e}"),
+// Why a lease can't be saved is told behind it.
+fn tell_halt(rt: &HostRuntime, halt: Halt, failure: Option<io::Error>) -> io::Result<()> {
+    match (halt, failure) {
+        (Halt::Stopped(Stop::NotSaved), Some(e)) => eprintln!(rt; "house: {halt}: {e}"),
+        _ => eprintln!(rt; "house: {halt}"),
     }
 }
 
-fn lend(rt: &HostRuntime, path: &str) -> Result<(), Ended> {
+fn lend(rt: &HostRuntime, path: &str) -> io::Result<ExitCode> {
     let (file, journal) = match open(rt, path) {
         Ok(opened) => opened,
         Err(why) => {
             tell_unusable(rt, path, why)?;
-            return Err(Ended);
+            return Ok(ExitCode::FAILURE);
         }
     };
     let heap = rt.alloc();
     let outside = FileOutside::new(file, Outbox::new(heap, rt.stdout()));
     let mut shell = Shell::new(heap, Server::new(heap, journal), outside);
     if let Err(halt) = serve(rt, &mut shell) {
-        tell_halt(rt, shell.outside.failure, halt)?;
-        return Err(Ended);
+        tell_halt(rt, halt, shell.outside.failure)?;
+        return Ok(ExitCode::FAILURE);
     }
-    Ok(())
+    Ok(ExitCode::SUCCESS)
 }
 
-fn obey(rt: &HostRuntime) -> Result<(), Ended> {
-    let mut args = env::args(rt)?;
-    let _program = args.next();
-    let (Some(path), None) = (args.next(), args.next()) else {
+fn obey(rt: &HostRuntime) -> io::Result<ExitCode> {
+    let mut args = env::args(rt)?.skip(1);
+    let (Some(word), None) = (args.next(), args.next()) else {
         eprintln!(rt; "{USAGE}")?;
-        return Err(Ended);
+        return Ok(ExitCode::FAILURE);
     };
-    if path.as_str() == "--help" {
+    if word.as_str() == "--help" {
         println!(rt; "{USAGE}")?;
-        return Ok(());
+        return Ok(ExitCode::SUCCESS);
     }
-    lend(rt, path.as_str())
+    lend(rt, word.as_str())
 }
 
 fn main(rt: HostRuntime) -> ExitCode {
-    match obey(&rt) {
-        Ok(()) => ExitCode::SUCCESS,
-        Err(Ended) => ExitCode::FAILURE,
-    }
+    obey(&rt).unwrap_or(ExitCode::FAILURE)
 }

@@ -1,7 +1,7 @@
-ghost use Rattle.std.specs.Prelude.{◌+◌};
 ghost use Rattle.house.specs.Acts.{Does, acts, acts_of, bytes_in, saved, saves};
 
 use crate::outside::Outside;
+use journal::Written;
 use server::{Effect, Server};
 use stream::Stop;
 
@@ -9,51 +9,28 @@ use stream::Stop;
 fn save<O: Outside>(place: usize, server: &Server, outside: &mut O) -> Result<(), Stop>
     ensures { Does O.Outside.did outside.old (saved (bytes_in server.now) place) result outside.new }
 {
-    let Some(bytes) = server.place(place) else {
-        return Err(Stop::NotSaved);
-    };
-    if let Err(stop) = outside.write(place, bytes) {
-        return Err(stop);
-    }
+    let bytes = server.place(place).ok_or(Stop::NotSaved)?;
+    outside.write(place, bytes)?;
     outside.sync()
 }
 
-// Saves so many places of the server's device from the first on, each before the next.
-fn save_all<O: Outside>(
-    first: usize,
-    count: usize,
-    server: &Server,
-    outside: &mut O,
-) -> Result<(), Stop>
-    ensures { Does O.Outside.did outside.old (saves (bytes_in server.now) first count) result outside.new }
+// Saves places of the server's device, each before the next.
+fn save_all<O: Outside>(written: Written, server: &Server, outside: &mut O) -> Result<(), Stop>
+    ensures { Does O.Outside.did outside.old (saves (bytes_in server.now) written.first written.count) result outside.new }
 {
-    for i in 0..count {
-        if let Err(stop) = save_next(first, i, server, outside) {
-            return Err(stop);
-        }
+    let Written { first, count } = written;
+    let end = first.checked_add(count).ok_or(Stop::NotSaved)?;
+    for place in first..end {
+        save(place, server, outside)?;
     }
     Ok(())
-}
-
-fn save_next<O: Outside>(
-    first: usize,
-    i: usize,
-    server: &Server,
-    outside: &mut O,
-) -> Result<(), Stop>
-    ensures { Does O.Outside.did outside.old (saved (bytes_in server.now) (first + i)) result outside.new }
-{
-    match first.checked_add(i) {
-        Some(place) => save(place, server, outside),
-        None => Err(Stop::NotSaved),
-    }
 }
 
 fn do_one<O: Outside>(effect: Effect, server: &Server, outside: &mut O) -> Result<(), Stop>
     ensures { Does O.Outside.did outside.old (acts_of (bytes_in server.now) effect) result outside.new }
 {
     match effect {
-        Effect::Persist { first, count } => save_all(first, count, server, outside),
+        Effect::Persist(written) => save_all(written, server, outside),
         Effect::Send(message) => outside.send(message),
     }
 }
@@ -63,9 +40,7 @@ pub fn perform<O: Outside>(effects: &[Effect], server: &Server, outside: &mut O)
     ensures { Does O.Outside.did outside.old (acts (bytes_in server.now) effects.now) result outside.new }
 {
     for effect in effects {
-        if let Err(stop) = do_one(*effect, server, outside) {
-            return Err(stop);
-        }
+        do_one(*effect, server, outside)?;
     }
     Ok(())
 }

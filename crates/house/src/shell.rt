@@ -7,9 +7,7 @@ use crate::outside::Outside;
 use crate::perform::perform;
 use server::{Effect, Server};
 use std::alloc::Global;
-use std::io;
-use stream::{Hearer, Speaker, Stop};
-use wire::{Fault, Message};
+use stream::{Hearer, Outbox, Speaker, Stop};
 
 // A server, and the outside that does what it asks for.
 #[derive(Drop)]
@@ -30,14 +28,12 @@ impl<O: Outside> Shell<O> {
         }
     }
 
-    // The server hears a message, and what it asks for is done in order.
+    // The server hears a message, and what it asks for is done in order. The trait's clause is of runs; this one names the step.
     fn hear_one(&mut self, bytes: &[u8]) -> Result<(), Stop>
         ensures { Hears O.Outside.did bytes.now self.old.server self.old.outside result self.new.server self.new.outside }
     {
         self.effects.clear();
-        if self.server.hear(bytes, &mut self.effects).is_err() {
-            return Err(Stop::NoMemory);
-        }
+        self.server.hear(bytes, &mut self.effects)?;
         perform(&self.effects, &self.server, &mut self.outside)
     }
 }
@@ -47,7 +43,7 @@ impl<O: Outside> Hearer for Shell<O> {
 
     ghost stopped = { λ a m b. Stops O.Outside.did m a.server a.outside b.server b.outside };
 
-    ghost stays = { λ _. (refl, refl) };
+    ghost stays = { λ _. refl };
 
     ghost goes = { λ a b c ms m r q. ran_more O.Outside.did a.server b.server c.server a.outside b.outside c.outside ms m r q };
 
@@ -57,11 +53,7 @@ impl<O: Outside> Hearer for Shell<O> {
 }
 
 impl Speaker for Shell<FileOutside> {
-    fn tell_cut(&mut self) -> Result<(), Stop> {
-        self.outside.out.put(Message::Fault(Fault::Malformed))
-    }
-
-    fn flush(&mut self) -> io::Result<()> {
-        self.outside.out.flush()
+    fn outbox(&mut self) -> &mut Outbox {
+        &mut self.outside.out
     }
 }

@@ -15,7 +15,7 @@ use Rattle.journal.specs.Table.{Table, keeping, set as set_in}
 use Rattle.journal.specs.Device.{Side, other, Device, Choice, chosen, is_found, Cursor}
 use Rattle.journal.specs.Append.{Plan, in_row, in_other, exhausted, numbered, writes, put, perform}
 use Rattle.journal.specs.Image.{index, stored, choice_from, device_of, table_in}
-use Rattle.journal.specs.Memory.{cursor_of, choice_of, places_of, next_record, went, Legible, Copied, Appended, Tried, AppendRefused}
+use Rattle.journal.specs.Memory.{cursor_of, choice_of, found_of, places_of, next_record, went, Legible, Copied, Appended, Tried, AppendRefused}
 use Rattle.journal.specs.Laws.{Ready}
 use Rattle.journal.specs.Promise.{planned, Gives, Stands, Outlives}
 use Rattle.journal.specs.Durable.{CutFile}
@@ -24,15 +24,15 @@ use Rattle.journal.proofs.Appends.{append_stands, append_survives}
 use Rattle.journal.proofs.Progress.{length_numbered}
 
 -- a written journal has its table in the active row
-table_in_lem : (j : Journal) (s : Side) → j.found ≡ found.Table → (cursor_of j).side ≡ s → choice_of j ≡ Choice.Found s
-table_in_lem j s f e = ap (λ (g : Found). choice_from g j.active) f ∙ ap Choice.Found e
+table_in_lem : (j : Journal) (s : Side) → found_of j ≡ found.Table → (cursor_of j).side ≡ s → choice_of j ≡ Choice.Found s
+table_in_lem j s f e = ap (λ (g : Found). choice_from g j.reading.side) f ∙ ap Choice.Found e
 
 module _ (before end : Journal) (x : Lease) (w : Written) where
   abbrev c : Cursor
   c = cursor_of before
 
   pub row_appended : vec_items end.device ≡ set (vec_items before.device) (index c.side c.count) (encoded (next_record c x)) →
-      places_of end ≡ put c.side c.count (Holds (next_record c x)) (places_of before) → decoded (encoded (next_record c x)) ≡ Some (next_record c x) → cursor_of end ≡ went c → end.found ≡ found.Table →
+      places_of end ≡ put c.side c.count (Holds (next_record c x)) (places_of before) → decoded (encoded (next_record c x)) ≡ Some (next_record c x) → cursor_of end ≡ went c → found_of end ≡ found.Table →
       w.first ≡ index c.side c.count → w.count ≡ 1 → c.first + c.count < 2 ^ 63 → c.count < 4096 → Appended before end (in_row c) x w
   unfolding numbered stored perform
   row_appended b d g e f p n l m =
@@ -54,7 +54,7 @@ module _ (before end : Journal) (x : Lease) (w : Written) where
     begun = record { side = other c.side; first = suc c.highest; count = 0; base = length (keeping now u n); highest = c.highest }
 
     pub other-appended : vec_items turned.device ≡ vec_items before.device → cursor_of turned ≡ begun →
-        Copied (cursor_of turned) (vec_items turned.device) (places_of turned) (keeping now u n ++ (x ∷ [])) (vec_items end.device) (places_of end) (cursor_of end) → end.found ≡ found.Table →
+        Copied (cursor_of turned) (vec_items turned.device) (places_of turned) (keeping now u n ++ (x ∷ [])) (vec_items end.device) (places_of end) (cursor_of end) → found_of end ≡ found.Table →
         w.first ≡ index (other c.side) 0 → w.count ≡ length (keeping now u n) + 1 → suc c.highest + length (keeping now u n) < 2 ^ 63 → length (keeping now u n) < 4096 → Appended before end (in_other n now c u) x w
     other-appended b t y f p m l o =
         let k : length (keeping now u n ++ (x ∷ [])) ≡ length (keeping now u n) + 1 = length-append (keeping now u n) (x ∷ []) in

@@ -1,11 +1,13 @@
 -- Numbers in digits and back, and records in bytes and back.
-use Rattle.std.proofs.Common.{◌≡◌, ℕ, zero, suc, ◌+◌, ◌*◌, ◌/◌, ◌%◌, ◌^◌, ◌<◌, eqb, List, [], ◌∷◌, ◌++◌, length, take, drop, replicate, Some, None, Option, sym, refl, ap, ◌∙◌, ap₂, mod-lt, mod-eq_of_lt, div-one, arith, length-append}
+use Rattle.std.proofs.Common.{◌≡◌, ℕ, zero, suc, ◌+◌, ◌*◌, ◌/◌, ◌%◌, ◌^◌, ◌<◌, eqb, List, [], ◌∷◌, ◌++◌, length, take, drop, replicate, Some, None, Option, sym, refl, ap, ◌∙◌, ap₂, mod-lt, mod-eq_of_lt, div-one, arith, length-append, w16, w32, w64}
+use Rattle.std.specs.Int.{from_be_bytes}
 use native.Mathlib.Nat.{mod-one, pow-succ', one-le-pow}
 use lib.Arith.{mod-mul}
 use lib.Seq.{paste}
 use Rattle.std.proofs.ByRecursion.{All-append}
 use Rattle.std.proofs.lemmas.List.{take_at, take_all, drop_at}
-use Rattle.std.proofs.lemmas.Slice.{drop-append-drop}
+use Rattle.std.proofs.lemmas.Slice.{drop-append-drop, put_mid-paste}
+use borrow.Rule.Slice.PartMut.{put_mid}
 use Rattle.std.specs.List.{AllByRecursion, between}
 use Rattle.std.proofs.lemmas.Bool.{cond-true, cond-false, and_from, and_left, and_right, eq-eqb, ne_eqb}
 use Rattle.checksum.specs.Crc.{crc}
@@ -69,12 +71,22 @@ four n = ap (λ (b : ℕ). (n / 16777216 % 256) ∷ (n / 65536 % 256) ∷ (n / 2
 pub eight : (n : ℕ) → (n / 72057594037927936 % 256) ∷ (n / 281474976710656 % 256) ∷ (n / 1099511627776 % 256) ∷ (n / 4294967296 % 256) ∷ (n / 16777216 % 256) ∷ (n / 65536 % 256) ∷ (n / 256 % 256) ∷ (n % 256) ∷ [] ≡ digits 8 n
 eight n = ap (λ (b : ℕ). (n / 72057594037927936 % 256) ∷ (n / 281474976710656 % 256) ∷ (n / 1099511627776 % 256) ∷ (n / 4294967296 % 256) ∷ (n / 16777216 % 256) ∷ (n / 65536 % 256) ∷ (n / 256 % 256) ∷ b ∷ []) (low n)
 
+-- and the numbers that they read
+pub number_2 : (bs : List ℕ) → from_be_bytes w16 bs ≡ number 2 bs
+number_2 bs = omega arith
+
+pub number_4 : (bs : List ℕ) → from_be_bytes w32 bs ≡ number 4 bs
+number_4 bs = omega arith
+
+pub number_8 : (bs : List ℕ) → from_be_bytes w64 bs ≡ number 8 bs
+number_8 bs = omega arith
+
 -- a list of which the first `at` elements were written, in order
 pub record Front (d : List ℕ) (at : ℕ) (front s : List ℕ) : Type 0 where
   pub is : s ≡ front ++ drop at d
   pub long : length front ≡ at
 
-pub further : (d front s t bs cs : List ℕ) (at : ℕ) → Front d at front s → t ≡ paste s at bs (length bs) → bs ≡ cs → Front d (at + length cs) (front ++ cs) t
+further : (d front s t bs cs : List ℕ) (at : ℕ) → Front d at front s → t ≡ paste s at bs (length bs) → bs ≡ cs → Front d (at + length cs) (front ++ cs) t
 further d front s t bs cs at w e same =
     let head : take at s ≡ front = ap (take at) w.is ∙ take_at front (drop at d) at w.long in
     let part : take (length bs) bs ≡ cs = take_all (length bs) bs (omega arith) ∙ same in
@@ -85,6 +97,10 @@ further d front s t bs cs at w e same =
       is = e ∙ ap₂ (λ (x y : List ℕ). x ++ y) (ap₂ (λ (x y : List ℕ). x ++ y) head part) rest;
       long = length-append front cs ∙ ap (λ (k : ℕ). k + length cs) w.long;
     }
+
+-- the next part, written in its place
+pub written : (d front s part bs cs : List ℕ) (at n : ℕ) → Front d at front s → part ≡ bs → bs ≡ cs → n ≡ length cs → Front d (at + length cs) (front ++ cs) (put_mid at n s part)
+written d front s part bs cs at n w p q l = further d front s (put_mid at n s part) bs cs at w (put_mid-paste at n s part bs (length bs) p (ap length q ∙ sym l) refl) q
 
 -- records
 pub length_summed : (r : Record) → length (summed r) ≡ 24

@@ -1,5 +1,5 @@
 -- Leases copied one after the other into a row that was begun.
-use Rattle.std.proofs.Common.{◌≡◌, ℕ, suc, ◌+◌, max, List, [], ◌∷◌, ◌++◌, length, set, Some, None, Option, sym, refl, ap, ◌∙◌, subst, ap₂, arith, length-append}
+use Rattle.std.proofs.Common.{◌≡◌, ℕ, suc, ◌+◌, max, List, [], ◌∷◌, ◌++◌, length, set, Some, None, sym, refl, ap, ◌∙◌, subst, ap₂, arith, length-append}
 use Rattle.std.proofs.ByRecursion.{All-push}
 use Rattle.std.specs.List.{AllByRecursion}
 use Rattle.lease.specs.declared.lease.Lease.{Lease}
@@ -9,7 +9,7 @@ use Rattle.journal.specs.Table.{Table, added, keeping, kept_of}
 use Rattle.journal.specs.Device.{Device, Cursor}
 use Rattle.journal.specs.Append.{Write, numbered, put, perform}
 use Rattle.journal.specs.Image.{index, stored}
-use Rattle.journal.specs.Memory.{next_record, went, went_with, stored_with, put_with, LegibleWith, Legible, copied_to, Copied}
+use Rattle.journal.specs.Memory.{next_record, went, Legible, copied_to, Copied}
 use Rattle.journal.proofs.Tables.{keeping-more}
 use Rattle.journal.proofs.Stores.{numbered-push, stored-push, perform-push}
 
@@ -50,12 +50,10 @@ module _ (c : Cursor) (bs₀ : List (List ℕ)) (d₀ : Device) (above : c.first
             (subst (λ (v : Cursor). decoded (encoded (next_record v x)) ≡ Some (next_record v x)) w.cursor g));
       }
 
-  maybe_copied : (xs : List Lease) (o : Option Lease) (bs : List (List ℕ)) (d : Device) (e : Cursor) (bs' : List (List ℕ)) (d' : Device) (e' : Cursor) → Copied c bs₀ d₀ xs bs d e →
-      LegibleWith o e → bs' ≡ stored_with o e bs → d' ≡ put_with o e d → e' ≡ went_with o e → Copied c bs₀ d₀ (added xs o) bs' d' e'
-  maybe_copied xs None bs d e bs' d' e' w g p q r = record { bytes = p ∙ w.bytes; device = q ∙ w.device; cursor = r ∙ w.cursor; legible = w.legible }
-  maybe_copied xs (Some x) bs d e bs' d' e' w g p q r = one-copied xs x bs d e bs' d' e' w g p q r
+  pub kept-copied : (now : ℕ) (t : Table) (i : ℕ) (x : Lease) (bs : List (List ℕ)) (d : Device) (e : Cursor) (bs' : List (List ℕ)) (d' : Device) (e' : Cursor) → kept_of now (t i) ≡ Some x →
+      Copied c bs₀ d₀ (keeping now t i) bs d e → decoded (encoded (next_record e x)) ≡ Some (next_record e x) → bs' ≡ set bs (index e.side e.count) (encoded (next_record e x)) → d' ≡ put e.side e.count (Holds (next_record e x)) d → e' ≡ went e → Copied c bs₀ d₀ (keeping now t (i + 1)) bs' d' e'
+  kept-copied now t i x bs d e bs' d' e' k w g p q r =
+      subst (λ (xs : List Lease). Copied c bs₀ d₀ xs bs' d' e') (ap (added (keeping now t i)) (sym k) ∙ sym (keeping-more now t i)) (one-copied (keeping now t i) x bs d e bs' d' e' w g p q r)
 
-  pub more-copied : (now : ℕ) (t : Table) (i : ℕ) (o : Option Lease) (bs : List (List ℕ)) (d : Device) (e : Cursor) (bs' : List (List ℕ)) (d' : Device) (e' : Cursor) → o ≡ kept_of now (t i) →
-      Copied c bs₀ d₀ (keeping now t i) bs d e → LegibleWith o e → bs' ≡ stored_with o e bs → d' ≡ put_with o e d → e' ≡ went_with o e → Copied c bs₀ d₀ (keeping now t (i + 1)) bs' d' e'
-  more-copied now t i o bs d e bs' d' e' k w g p q r =
-      subst (λ (xs : List Lease). Copied c bs₀ d₀ xs bs' d' e') (ap (added (keeping now t i)) k ∙ sym (keeping-more now t i)) (maybe_copied (keeping now t i) o bs d e bs' d' e' w g p q r)
+  pub none-kept : (now : ℕ) (t : Table) (i : ℕ) (bs : List (List ℕ)) (d : Device) (e : Cursor) → kept_of now (t i) ≡ None → Copied c bs₀ d₀ (keeping now t i) bs d e → Copied c bs₀ d₀ (keeping now t (i + 1)) bs d e
+  none-kept now t i bs d e k w = subst (λ (xs : List Lease). Copied c bs₀ d₀ xs bs d e) (ap (added (keeping now t i)) (sym k) ∙ sym (keeping-more now t i)) w

@@ -7,6 +7,8 @@ pub mod Runs
 pub mod Numbers
 pub mod Cases
 pub mod Codes
+pub mod Blanks
+pub mod Chunks
 pub mod Scans
 pub mod Readings
 pub mod Restores

@@ -1,6 +1,7 @@
 -- A row read in one pass, and bytes that are zeros.
-use Rattle.std.proofs.Common.{◌≡◌, ℕ, zero, suc, ◌+◌, ◌<◌, max, Bool, true, false, ◌&&◌, eqb, ◌⊎◌, List, [], ◌∷◌, length, get_or, sym, refl, ap, ◌∙◌, subst, ap₂, inl, inr, add-one, arith}
-use Rattle.std.proofs.lemmas.Bool.{cond-true, cond-false, eq-eqb, ne_eqb, and_from, and_left, and_right, cases_eq, cases_Bool}
+use Rattle.std.proofs.Common.{◌≡◌, ℕ, zero, suc, ◌+◌, ◌<◌, max, Bool, true, false, ◌&&◌, eqb, ◌⊎◌, List, [], ◌∷◌, sym, refl, ap, ◌∙◌, subst, ap₂, inl, inr, add-one, arith}
+use Rattle.std.specs.List.{list_all}
+use Rattle.std.proofs.lemmas.Bool.{cond-true, cond-false, eq-eqb, ne_eqb, and_from, and_right, cases_eq, cases_Bool}
 use Rattle.journal.specs.declared.record.Record.{Record}
 use Rattle.journal.specs.declared.state.RowState.{RowState}
 use Rattle.journal.specs.declared.scan.RowScan.{RowScan}
@@ -9,16 +10,10 @@ use Rattle.journal.specs.Bytes.{zeros}
 use Rattle.journal.specs.Row.{Row, numbers, first, reads, highest, is_blank, blank_row}
 use Rattle.journal.specs.Image.{row_noted, noted, scanned, Knows}
 
-pub zeros-all : (bs : List ℕ) → ((k : ℕ) → k < length bs → get_or bs k 0 ≡ 0) → zeros bs ≡ true
+pub zeros_list : (bs : List ℕ) → list_all (λ b. eqb b 0) bs ≡ zeros bs
 unfolding zeros
-zeros-all [] h = refl
-zeros-all (b ∷ bs) h = and_from (eqb b 0) (zeros bs) (eq-eqb b 0 (h 0 (omega arith))) (zeros-all bs (λ k l. h (suc k) (omega arith)))
-
-pub zeros_not : (bs : List ℕ) (k : ℕ) → k < length bs → (get_or bs k 0 ≡ 0 → ⊥) → zeros bs ≡ false
-unfolding zeros
-zeros_not [] k l h = absurd (omega arith)
-zeros_not (b ∷ bs) zero l h = and_left (eqb b 0) (zeros bs) (ne_eqb b 0 h)
-zeros_not (b ∷ bs) (suc k) l h = and_right (eqb b 0) (zeros bs) (zeros_not bs k (omega arith) h)
+zeros_list [] = refl
+zeros_list (b ∷ bs) = ap (λ (z : Bool). eqb b 0 && z) (zeros_list bs)
 
 -- places that are not looked at do not matter
 pub scanned-same : (row old : Row) (n : ℕ) → ((k : ℕ) → k < n → row k ≡ old k) → scanned row n ≡ scanned old n

@@ -1,10 +1,14 @@
 -- Tables that agree, the table that leases make one after the other, and the leases that are kept.
-use Rattle.std.proofs.Common.{◌≡◌, ℕ, zero, suc, ◌+◌, ◌<◌, ◌≤◌, Bool, true, false, cond, eqb, List, [], ◌∷◌, ◌++◌, length, is_some, Some, None, Option, sym, refl, ap, ◌∙◌, subst, inl, inr, le_of_eq, add-one, arith, length-append}
+use Rattle.std.proofs.Common.{◌≡◌, ℕ, zero, suc, ◌+◌, ◌<◌, ◌≤◌, Bool, true, false, cond, eqb, List, [], ◌∷◌, ◌++◌, length, get_or, take, is_some, Some, None, Option, sym, refl, ap, ◌∙◌, subst, inl, inr, le_of_eq, add-one, arith, length-append}
+use Rattle.std.specs.List.{count_by, filter}
+use Rattle.std.proofs.lemmas.List.{take_all}
+use Rattle.std.proofs.lemmas.List.Sums.{count_by_more_no, count_by_more_yes, length-filter}
 use Rattle.std.proofs.lemmas.Bool.{cond_both, cond-true, cond-false, eq-eqb, ne_eqb, leb-false, lt-leb, cases_eq}
 use Rattle.lease.specs.declared.lease.Lease.{Lease}
 use Rattle.journal.specs.Place.{Place, Blank, Torn, Holds}
 use Rattle.journal.specs.Table.{Table, empty, set, kept, kept_of, Agree, Filed, added, keeping}
 use Rattle.journal.specs.Row.{Row, put_in, table_of}
+use Rattle.journal.specs.Image.{table_in}
 
 pub set_same : (x : Lease) (t : Table) (a : ℕ) → a ≡ x.address → set x t a ≡ Some x
 set_same x t a e = cond-true _ _ _ (eq-eqb _ _ e)
@@ -27,7 +31,7 @@ kept-some now (Some k) l h = go (kept now k) h
     go true h = h
     go false h = absurd (none-some l h)
 
-pub kept-later : (now then : ℕ) (e : Option Lease) → now ≤ then → kept_of then (kept_of now e) ≡ kept_of then e
+kept-later : (now then : ℕ) (e : Option Lease) → now ≤ then → kept_of then (kept_of now e) ≡ kept_of then e
 kept-later now then None l = refl
 kept-later now then (Some x) l =
     cond_both (kept now x) (Some x) None (λ q. kept_of then q ≡ kept_of then (Some x))
@@ -47,12 +51,6 @@ agree_later n now then t u l h a m = sym (kept-later now then (t a) l) ∙ ap (k
 
 pub agree_join : (n now : ℕ) (t u v : Table) → Agree n now t u → Agree n now u v → Agree n now t v
 agree_join n now t u v h k a l = h a l ∙ k a l
-
-pub agree_back : (n now : ℕ) (t u : Table) → Agree n now t u → Agree n now u t
-agree_back n now t u h a l = sym (h a l)
-
-pub agree_same : (n now : ℕ) (t u : Table) → ((a : ℕ) → t a ≡ u a) → Agree n now t u
-agree_same n now t u h a l = ap (kept_of now) (h a)
 
 -- leases at their addresses
 pub filed-set : (x : Lease) (t : Table) → Filed t → Filed (set x t)
@@ -98,7 +96,7 @@ length_keeping now t (suc n) = go (kept_of now (t n)) (length_keeping now t n)
     go None h = omega arith
     go (Some l) h = let z : length (keeping now t n ++ (l ∷ [])) ≡ length (keeping now t n) + 1 = length-append (keeping now t n) (l ∷ []) in omega arith
 
-pub length_added : (xs : List Lease) (o : Option Lease) → length (added xs o) ≡ cond (is_some o) (length xs + 1) (length xs)
+length_added : (xs : List Lease) (o : Option Lease) → length (added xs o) ≡ cond (is_some o) (length xs + 1) (length xs)
 length_added xs None = refl
 length_added xs (Some l) = length-append xs (l ∷ [])
 
@@ -110,6 +108,25 @@ keeping-more now t n = ap (keeping now t) (add-one n)
 pub keeping_start : (now : ℕ) (t : Table) → keeping now t 0 ≡ []
 unfolding keeping
 keeping_start now t = refl
+
+-- how many entries of a list are kept
+kept_so_far : (now : ℕ) (xs : List (Option Lease)) (n : ℕ) → n ≤ length xs → count_by (λ o. is_some (kept_of now o)) (take n xs) ≡ length (keeping now (table_in xs) n)
+unfolding keeping
+kept_so_far now xs zero l = refl
+kept_so_far now xs (suc n) l =
+    ap (λ (i : ℕ). count_by (λ o. is_some (kept_of now o)) (take i xs)) {x = suc n} {y = n + 1} (omega arith)
+    ∙ go (kept_of now (get_or xs n None)) refl (kept_so_far now xs n (omega arith)) (omega arith)
+  where
+    go : (e : Option Lease) → kept_of now (get_or xs n None) ≡ e → count_by (λ o. is_some (kept_of now o)) (take n xs) ≡ length (keeping now (table_in xs) n) → n < length xs →
+        count_by (λ o. is_some (kept_of now o)) (take (n + 1) xs) ≡ length (added (keeping now (table_in xs) n) e)
+    go None k h m = count_by_more_no (λ o. is_some (kept_of now o)) xs n None m (ap is_some k) ∙ h
+    go (Some x) k h m =
+        count_by_more_yes (λ o. is_some (kept_of now o)) xs n None m (ap is_some k) ∙ ap (λ (i : ℕ). i + 1) h ∙ sym (length-append (keeping now (table_in xs) n) (x ∷ []))
+
+pub length-kept : (now : ℕ) (xs : List (Option Lease)) → length (filter (λ o. is_some (kept_of now o)) xs) ≡ length (keeping now (table_in xs) (length xs))
+length-kept now xs =
+    length-filter (λ o. is_some (kept_of now o)) xs ∙ ap (count_by (λ o. is_some (kept_of now o))) (sym (take_all (length xs) xs (omega arith)))
+    ∙ kept_so_far now xs (length xs) (omega arith)
 
 pub keeping_le : (now : ℕ) (t : Table) (i n : ℕ) → i ≤ n → length (keeping now t i) ≤ length (keeping now t n)
 unfolding keeping

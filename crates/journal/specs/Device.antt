@@ -1,13 +1,11 @@
 -- The device of two rows, and what is recovered from it: which row has the table, the table, and where the next record goes.
 -- Assumes nothing.
+pub use Rattle.journal.specs.declared.state.Side.{Side}
+pub use Rattle.journal.specs.declared.state.Side.TheVariants.{Row0, Row1}
 use Rattle.std.specs.Prelude.{ℕ, max, Bool, true, false, cond, ◌&&◌, nat_le, nat_lt}
-use Rattle.journal.specs.Place.{base_of}
+use Rattle.journal.specs.Place.{Blank, base_of}
 use Rattle.journal.specs.Table.{Table, empty}
 use Rattle.journal.specs.Row.{Row, first, reads, whole, table_of, highest, blank_row}
-
-pub data Side : Type 0 where
-  Row0 : Side
-  Row1 : Side
 
 abbrev pub other : Side → Side
 other Row0 = Row1
@@ -15,6 +13,10 @@ other Row1 = Row0
 
 abbrev pub Device : Type 0
 Device = Side → Row
+
+-- a device of zeros alone
+abbrev pub blank_device : Device
+blank_device s k = Blank
 
 -- the highest sequence number that fits, in either row and at any place
 abbrev pub high : ℕ → Device → ℕ

@@ -1,10 +1,11 @@
 -- The device as bytes: 8,192 places of 28 bytes, the first 4,096 of them row 0; and the journal in memory as a cursor.
 -- Assumes nothing.
-use Rattle.std.specs.Prelude.{◌≡◌, ℕ, zero, suc, ◌+◌, ◌*◌, ◌<◌, max, true, false, cond, ◌&&◌, List, [], ◌∷◌, length, get_or, None, Option, ◌==◌, nat_lt, slice_index_or, slice_set}
+use Rattle.std.specs.Prelude.{◌≡◌, ℕ, zero, suc, ◌+◌, ◌*◌, ◌<◌, max, true, false, cond, ◌&&◌, List, [], ◌∷◌, length, None, Option, ◌==◌, nat_le, nat_lt, slice_index_or, slice_set}
 use Rattle.std.specs.List.{between}
 use Rattle.lease.specs.declared.lease.Lease.{Lease}
 use Rattle.journal.specs.declared.record.Record.{Record}
 use Rattle.journal.specs.declared.state.RowState.{RowState}
+use Rattle.journal.specs.declared.state.Reading.{Reading}
 use Rattle.journal.specs.declared.state.Found.{Found}
 use Rattle.journal.specs.declared.state.Found.TheVariants as found
 use Rattle.journal.specs.declared.state.OpenError.{OpenError}
@@ -13,13 +14,9 @@ use Rattle.journal.specs.declared.scan.RowScan.{RowScan}
 use Rattle.journal.specs.Place.{Place, Blank, Torn, Holds, base_of}
 use Rattle.journal.specs.Bytes.{encoded, place_of}
 use Rattle.journal.specs.Table.{Table}
-use Rattle.journal.specs.Row.{Row, first, reads, highest, blank_row}
-use Rattle.journal.specs.Device.{Side, Row0, Row1, Device, Choice, New, Lost, chosen, Cursor, cursor}
+use Rattle.journal.specs.Row.{Row, first, reads, whole, highest, blank_row}
+use Rattle.journal.specs.Device.{Side, Row0, Row1, Device, Choice, New, Lost, chosen, Cursor, cursor, cursor_at}
 use Rattle.journal.specs.Append.{Write}
-
-abbrev pub side_of : ℕ → Side
-side_of zero = Row0
-side_of (suc k) = Row1
 
 -- the place of the device that is a row's place `k`
 abbrev pub index : Side → ℕ → ℕ
@@ -40,13 +37,19 @@ table_in xs a = slice_index_or xs a None
 abbrev pub unread : RowState
 unread = record { first = 0; base = 0; count = 0 }
 
-abbrev pub cursor_from : List RowState → (active highest : ℕ) → Cursor
-cursor_from rows a h = record { side = side_of a; first = (get_or rows a unread).first; count = (get_or rows a unread).count; base = (get_or rows a unread).base; highest = h }
+abbrev pub cursor_from : Reading → Cursor
+cursor_from r = record { side = r.side; first = r.row.first; count = r.row.count; base = r.row.base; highest = r.highest }
 
-abbrev pub choice_from : Found → (active : ℕ) → Choice
-choice_from found.New a = New
-choice_from found.Lost a = Lost
-choice_from found.Table a = Choice.Found (side_of a)
+abbrev pub choice_from : Found → Side → Choice
+choice_from found.New s = New
+choice_from found.Lost s = Lost
+choice_from found.Table s = Choice.Found s
+
+-- what a reading found, as it is told
+abbrev pub found_in : Choice → Found
+found_in New = found.New
+found_in Lost = found.Lost
+found_in (Choice.Found s) = found.Table
 
 -- one place more of a row that is read
 abbrev pub row_noted : RowState → ℕ → Record → RowState
@@ -73,11 +76,17 @@ pub record Knows (row : Row) (n : ℕ) (s : RowScan) : Type 0 where
   pub highest : s.highest ≡ highest row n
   pub blank : s.blank ≡ blank_row row n
 
--- a journal in memory that has read its device
-pub record Recovered (d : Device) (rows : List RowState) (active highest : ℕ) (f : Found) : Type 0 where
-  pub within : active < 2
-  pub choice : choice_from f active ≡ chosen 4096 d
-  pub cursor : cursor_from rows active highest ≡ cursor 4096 d
+-- what a reading of the device gives
+pub record Recovered (d : Device) (r : Reading) : Type 0 where
+  pub choice : choice_from r.found r.side ≡ chosen 4096 d
+  pub cursor : cursor_from r ≡ cursor 4096 d
+
+-- the reading of one row, as where it has the table
+pub record Takes (d : Device) (s : Side) (r : Reading) : Type 0 where
+  pub side : r.side ≡ s
+  pub whole : (nat_le 1 r.row.count && nat_le r.row.base r.row.count) ≡ whole 4096 (d s)
+  pub cursor : cursor_from r ≡ cursor_at 4096 d (Choice.Found s)
+  pub found : r.found ≡ found.Table
 
 -- bytes, divided into places
 pub record Divided (bytes : List ℕ) (places : List (List ℕ)) : Type 0 where
@@ -88,6 +97,11 @@ pub record Divided (bytes : List ℕ) (places : List (List ℕ)) : Type 0 where
 abbrev pub OpenRefused : OpenError → (bytes room : ℕ) → Type 0
 OpenRefused WrongLength n m = n ≡ 229376 → ⊥
 OpenRefused NoRoom n m = (n ≡ 229376) × (m < 8192)
+
+-- why a device of so many bytes is not read where room for its places is asked for
+abbrev pub ReadRefused : OpenError → (bytes : ℕ) → Type 0
+ReadRefused WrongLength n = n ≡ 229376 → ⊥
+ReadRefused NoRoom n = n ≡ 229376
 
 -- how many records make the table
 abbrev pub count_of : Found → ℕ → ℕ

@@ -1,9 +1,10 @@
 -- A journal in memory: its cursor, what the next record is, and what an append leaves.
 -- Assumes nothing.
-use Rattle.std.specs.Prelude.{◌≡◌, ℕ, suc, ◌+◌, ◌^◌, ◌<◌, ◌≤◌, max, true, false, List, length, Some, None, vec_items, Option, Result, MatchResult, slice_set}
+use Rattle.std.specs.Prelude.{◌≡◌, ℕ, suc, ◌+◌, ◌^◌, ◌<◌, ◌≤◌, max, true, false, List, length, Some, vec_items, Result, MatchResult, slice_set}
 use Rattle.lease.specs.declared.lease.Lease.{Lease}
 use Rattle.journal.specs.declared.journal.Journal.{Journal}
 use Rattle.journal.specs.declared.record.Record.{Record}
+use Rattle.journal.specs.declared.state.Found.{Found as Finding}
 use Rattle.journal.specs.declared.state.Found.TheVariants as found
 use Rattle.std.specs.List.{AllByRecursion}
 use Rattle.journal.specs.Place.{Holds}
@@ -12,17 +13,25 @@ use Rattle.journal.specs.Append.{put, perform, Write, numbered, Plan, exhausted,
 use Rattle.journal.specs.declared.state.Written.{Written}
 use Rattle.lease.specs.declared.fault.Fault.{Fault}
 use Rattle.lease.specs.declared.fault.Fault.TheVariants.{Malformed, BadAddress, OtherClient, NotWaiting, TooLate, NoneFree, BadSettings, TableLost, CountExhausted}
-use Rattle.journal.specs.Device.{Device, Choice, Found, Cursor, other}
+use Rattle.journal.specs.Device.{Device, Choice, Found, Cursor, chosen, cursor, other}
 use Rattle.journal.specs.Image.{choice_from, cursor_from, device_of, index, stored}
 
 abbrev pub cursor_of : Journal → Cursor
-cursor_of j = cursor_from j.rows j.active j.highest
+cursor_of j = cursor_from j.reading
 
 abbrev pub choice_of : Journal → Choice
-choice_of j = choice_from j.found j.active
+choice_of j = choice_from j.reading.found j.reading.side
+
+abbrev pub found_of : Journal → Finding
+found_of j = j.reading.found
 
 abbrev pub places_of : Journal → Device
 places_of j = device_of (vec_items j.device)
+
+-- a journal in memory that has read its device
+pub record HasRead (j : Journal) : Type 0 where
+  pub choice : choice_of j ≡ chosen 4096 (places_of j)
+  pub cursor : cursor_of j ≡ cursor 4096 (places_of j)
 
 -- the record that a lease becomes behind a cursor, and the cursor behind that
 abbrev pub next_record : Cursor → Lease → Record
@@ -31,7 +40,7 @@ next_record c x = record { sequence = c.first + c.count; base = c.base; lease = 
 abbrev pub went : Cursor → Cursor
 went c = record { side = c.side; first = c.first; count = suc c.count; base = c.base; highest = max c.highest (c.first + c.count) }
 
--- room for one more record in the active row, with a number below 2^63
+-- room for one more record in the row in use, with a number below 2^63
 pub record Room (j : Journal) : Type 0 where
   pub room : (cursor_of j).count < 4096
   pub early : (cursor_of j).first + (cursor_of j).count < 2 ^ 63
@@ -42,34 +51,9 @@ pub record Wrote (before after : Journal) (x : Lease) : Type 0 where
   pub device : places_of after ≡ put (cursor_of before).side (cursor_of before).count (Holds (next_record (cursor_of before) x)) (places_of before)
   pub legible : decoded (encoded (next_record (cursor_of before) x)) ≡ Some (next_record (cursor_of before) x)
   pub cursor : cursor_of after ≡ went (cursor_of before)
-  pub active : after.active ≡ before.active
-  pub found : after.found ≡ found.Table
+  pub found : found_of after ≡ found.Table
 
--- the same for a lease that there may be none of
-abbrev pub went_with : Option Lease → Cursor → Cursor
-went_with None c = c
-went_with (Some x) c = went c
-
-abbrev pub stored_with : Option Lease → Cursor → List (List ℕ) → List (List ℕ)
-stored_with None c bs = bs
-stored_with (Some x) c bs = slice_set bs (index c.side c.count) (encoded (next_record c x))
-
-abbrev pub put_with : Option Lease → Cursor → Device → Device
-put_with None c d = d
-put_with (Some x) c d = put c.side c.count (Holds (next_record c x)) d
-
-abbrev pub LegibleWith : Option Lease → Cursor → Type 0
-LegibleWith None c = Unit {0}
-LegibleWith (Some x) c = decoded (encoded (next_record c x)) ≡ Some (next_record c x)
-
-pub record WroteSome (before after : Journal) (o : Option Lease) : Type 0 where
-  pub bytes : vec_items after.device ≡ stored_with o (cursor_of before) (vec_items before.device)
-  pub device : places_of after ≡ put_with o (cursor_of before) (places_of before)
-  pub legible : LegibleWith o (cursor_of before)
-  pub cursor : cursor_of after ≡ went_with o (cursor_of before)
-  pub active : after.active ≡ before.active
-
--- the other row is active, numbered above all that fits, and has no record yet
+-- the other row is in use, numbered above all that fits, and has no record yet
 abbrev pub turned_to : Cursor → (base : ℕ) → Cursor
 turned_to c b = record { side = other c.side; first = suc c.highest; count = 0; base = b; highest = c.highest }
 

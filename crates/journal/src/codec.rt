@@ -1,55 +1,49 @@
-ghost use Rattle.std.specs.Prelude.{◌≡◌, ◌+◌, ◌≤◌, length, Some};
-ghost use Rattle.std.proofs.Math.Seq.{paste};
-ghost use Rattle.journal.specs.Bytes.{decoded, encoded, number, RoundTrip, ZerosAreBlank};
+ghost use Rattle.std.specs.Prelude.{◌≡◌, length, Some};
+ghost use Rattle.journal.specs.Bytes.{decoded, encoded, RoundTrip, ZerosAreBlank};
 
 use crate::record::Record;
+use crate::state::{PLACE, Place};
 use checksum::crc32c;
 use lease::Lease;
+use std::ops::Range;
 
-fn write_part(place: &mut [u8], at: usize, bytes: &[u8])
-    requires { at + length bytes.now ≤ length place.old }
-    ensures { place.new ≡ paste place.old at bytes.now (length bytes.now) }
-{
-    place[at..at + bytes.len()].copy_from_slice(bytes);
-}
+// Where a record's fields stand in its place, and last the sum of what stands before it.
+const SEQUENCE: Range<usize> = 0..8;
 
-fn read_u16(bytes: &[u8]) -> u16
-    requires { length bytes.now ≡ 2 }
-    ensures { result ≡ number 2 bytes.now }
-{
-    u16::from_be_bytes([bytes[0], bytes[1]])
-}
+const BASE: Range<usize> = 8..10;
 
-fn read_u32(bytes: &[u8]) -> u32
-    requires { length bytes.now ≡ 4 }
-    ensures { result ≡ number 4 bytes.now }
-{
-    u32::from_be_bytes([bytes[0], bytes[1], bytes[2], bytes[3]])
-}
+const ADDRESS: Range<usize> = 10..12;
 
-fn read_u64(bytes: &[u8]) -> u64
-    requires { length bytes.now ≡ 8 }
-    ensures { result ≡ number 8 bytes.now }
+const CLIENT: Range<usize> = 12..16;
+
+const EXPIRES: Range<usize> = 16..24;
+
+const SUM: Range<usize> = 24..28;
+
+// As many bytes as a number has; wire has a like function of a place in longer bytes, and a crate below both for it would be no plainer.
+fn bytes_of<const N: usize>(part: &[u8]) -> [u8; N]
+    requires { length part.now ≡ N }
+    ensures { result ≡ part.now }
 {
-    let mut all = [0u8; 8];
-    all.copy_from_slice(bytes);
-    u64::from_be_bytes(all)
+    let mut bytes = [0; N];
+    bytes.copy_from_slice(part);
+    bytes
 }
 
 impl Record {
     // Writes the record into its place.
-    pub fn encode(self, place: &mut [u8; 28])
+    pub fn encode(self, place: &mut Place)
         ensures bytes { place.new ≡ encoded self }
         ensures back { decoded place.new ≡ Some self }
         ensures trip { RoundTrip }
     {
-        write_part(place, 0, &self.sequence.to_be_bytes());
-        write_part(place, 8, &self.base.to_be_bytes());
-        write_part(place, 10, &self.lease.address.to_be_bytes());
-        write_part(place, 12, &self.lease.client.to_be_bytes());
-        write_part(place, 16, &self.lease.expires.to_be_bytes());
-        let sum = crc32c(&place[0..24]);
-        write_part(place, 24, &sum.to_be_bytes());
+        place[SEQUENCE].copy_from_slice(&self.sequence.to_be_bytes());
+        place[BASE].copy_from_slice(&self.base.to_be_bytes());
+        place[ADDRESS].copy_from_slice(&self.lease.address.to_be_bytes());
+        place[CLIENT].copy_from_slice(&self.lease.client.to_be_bytes());
+        place[EXPIRES].copy_from_slice(&self.lease.expires.to_be_bytes());
+        let sum = crc32c(&place[..SUM.start]);
+        place[SUM].copy_from_slice(&sum.to_be_bytes());
     }
 
     // The record in a place's bytes, if its sum fits.
@@ -57,20 +51,20 @@ impl Record {
         ensures value { result ≡ decoded place.now }
         ensures blank { ZerosAreBlank }
     {
-        if place.len() != 28 {
+        if place.len() != PLACE {
             return None;
         }
-        let sum = crc32c(&place[0..24]);
-        if sum != read_u32(&place[24..28]) {
+        let sum = crc32c(&place[..SUM.start]);
+        if sum != u32::from_be_bytes(bytes_of(&place[SUM])) {
             return None;
         }
         Some(Record {
-            sequence: read_u64(&place[0..8]),
-            base: read_u16(&place[8..10]),
+            sequence: u64::from_be_bytes(bytes_of(&place[SEQUENCE])),
+            base: u16::from_be_bytes(bytes_of(&place[BASE])),
             lease: Lease {
-                address: read_u16(&place[10..12]),
-                client: read_u32(&place[12..16]),
-                expires: read_u64(&place[16..24]),
+                address: u16::from_be_bytes(bytes_of(&place[ADDRESS])),
+                client: u32::from_be_bytes(bytes_of(&place[CLIENT])),
+                expires: u64::from_be_bytes(bytes_of(&place[EXPIRES])),
             },
         })
     }

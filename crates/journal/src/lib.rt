@@ -17,4 +17,4 @@ pub use laws::{
 };
 pub use open::{device_bytes, device_places};
 pub use record::Record;
-pub use state::{Found, OpenError, Written};
+pub use state::{Found, OpenError, Side, Written};

@@ -1,40 +1,20 @@
-ghost use Rattle.std.specs.Prelude.{◌≡◌, ℕ, ◌+◌, ◌*◌, ◌/◌, ◌<◌, ◌≤◌, false, ◌&&◌, ltb, [], ◌∷◌, length, get_or, if◌then◌else◌, Some, None, vec_len, vec_capacity, MatchResult, nat_le, nat_lt, slice_index_or};
+ghost use Rattle.std.specs.Prelude.{◌≡◌, ℕ, ◌+◌, ◌*◌, ◌<◌, ◌&&◌, ltb, [], length, if◌then◌else◌, Some, None, vec_len, vec_capacity, IfOk, MatchResult, nat_le, nat_lt, slice_index_or};
 ghost use Rattle.std.proofs.Math.Seq.{paste};
-ghost use Rattle.std.specs.List.{between};
-ghost use Rattle.journal.specs.declared.state.Found.TheVariants.{New, Lost};
-ghost use Rattle.journal.specs.Device.{Device, Row0, Row1, leases, newer_of};
-ghost use Rattle.journal.specs.Image.{Divided, Knows, OpenRefused, Recovered, count_of, device_of, side_of, table_in, unread};
+ghost use Rattle.journal.specs.declared.state.Found.TheVariants.{New};
+ghost use Rattle.journal.specs.Bytes.{place_of};
+ghost use Rattle.journal.specs.Device.{Device, Row0, Row1, blank_device, cursor, leases, newer_of};
+ghost use Rattle.journal.specs.Image.{Divided, Knows, OpenRefused, ReadRefused, Recovered, Takes, device_of, table_in};
+ghost use Rattle.journal.specs.Memory.{HasRead, cursor_of, found_of, places_of};
 ghost use Rattle.journal.specs.Promise.{Rereads};
-ghost use Rattle.journal.specs.Bytes.{place_from, place_of};
-ghost use Rattle.journal.specs.Row.{put_in, table_of};
+ghost use Rattle.journal.specs.Row.{table_of};
+ghost use Rattle.journal.specs.Table.{set};
 
 use crate::journal::Journal;
 use crate::record::Record;
 use crate::scan::{RowScan, scan_row};
-use crate::state::{DEVICE, Found, OpenError, PLACES, ROW, RowState};
+use crate::state::{DEVICE, Found, OpenError, PLACE, PLACES, Place, ROW, Reading, RowState, Side};
 use lease::Lease;
-
-// What a reading gives, as the journal keeps it.
-#[derive(Clone, Copy)]
-struct Reading {
-    rows: [RowState; 2],
-    active: usize,
-    highest: u64,
-    found: Found,
-}
-
-impl Reading {
-    // How many records make the table.
-    fn count(self) -> usize
-        requires { self.active < 2 }
-        ensures { result ≡ count_of self.found (get_or self.rows self.active unread).count }
-    {
-        match self.found {
-            Found::Table => self.rows[self.active].count,
-            Found::New | Found::Lost => 0,
-        }
-    }
-}
+use std::alloc::{AllocError, Global};
 
 impl RowState {
     // At least one record, and as many as its first says.
@@ -46,115 +26,86 @@ impl RowState {
 }
 
 // Of the rows that have a record, the one with the higher first sequence number.
-fn newer_of(a: RowState, b: RowState) -> usize
-    ensures side { side_of result ≡ newer_of (nat_le 1 a.count) (nat_le 1 b.count) (nat_lt a.first b.first) }
-    ensures within { result < 2 }
+fn newer_of(a: RowState, b: RowState) -> Side
+    ensures { result ≡ newer_of (nat_le 1 a.count) (nat_le 1 b.count) (nat_lt a.first b.first) }
 {
-    if a.count == 0 {
-        return 1;
+    if a.count == 0 || (b.count >= 1 && b.first > a.first) {
+        return Side::Row1;
     }
-    if b.count >= 1 && b.first > a.first {
-        return 1;
-    }
-    0
+    Side::Row0
 }
 
-// With no row whole: zeros alone are new, anything else is lost.
-fn without_table(blank0: bool, blank1: bool) -> Found
-    ensures { result ≡ (if blank0 && blank1 then New else Lost) }
+// The reading where this row has the table.
+fn reading_of(side: Side, a: RowScan, b: RowScan) -> Reading
+    ensures { (d : Device) → Knows (d Row0) 4096 a → Knows (d Row1) 4096 b → Takes d side result }
 {
-    if blank0 && blank1 {
-        return Found::New;
-    }
-    Found::Lost
-}
-
-// With no table the next record begins row 0: as if row 1 were active and full.
-fn beginning(row0: RowState, highest: u64, found: Found) -> Reading
-    ensures { result ≡ record { rows = row0 ∷ record { first = 0; base = 0; count = 4096 } ∷ []; active = 1; highest = highest; found = found } }
-{
-    let full = RowState {
-        first: 0,
-        base: 0,
-        count: ROW,
+    let row = match side {
+        Side::Row0 => a.row,
+        Side::Row1 => b.row,
     };
     Reading {
-        rows: [row0, full],
-        active: 1,
-        highest,
-        found,
+        side,
+        row,
+        highest: a.highest.max(b.highest),
+        found: Found::Table,
     }
 }
 
-// The newer row if it is whole, else the older if it is whole.
+// The newer row if it is whole, else the older if it is whole. Neither: zeros alone are new, anything else is lost, and the next record begins row 0, as if row 1 were in use and full.
 fn choose(a: RowScan, b: RowScan) -> Reading
-    ensures { (d : Device) → Knows (d Row0) 4096 a → Knows (d Row1) 4096 b → Recovered d result.rows result.active result.highest result.found }
+    ensures { (d : Device) → Knows (d Row0) 4096 a → Knows (d Row1) 4096 b → Recovered d result }
 {
-    let highest = a.highest.max(b.highest);
-    let rows = [a.row, b.row];
-    let newer = newer_of(a.row, b.row);
-    let older = 1 - newer;
-    let found = Found::Table;
-    if rows[newer].is_whole() {
-        return Reading {
-            rows,
-            active: newer,
-            highest,
-            found,
-        };
+    let newer = reading_of(newer_of(a.row, b.row), a, b);
+    if newer.row.is_whole() {
+        return newer;
     }
-    if rows[older].is_whole() {
-        return Reading {
-            rows,
-            active: older,
-            highest,
-            found,
-        };
+    let older = reading_of(newer.side.other(), a, b);
+    if older.row.is_whole() {
+        return older;
     }
-    beginning(a.row, highest, without_table(a.blank, b.blank))
+    Reading {
+        side: Side::Row1,
+        row: RowState {
+            first: 0,
+            base: 0,
+            count: ROW,
+        },
+        found: if a.blank && b.blank {
+            Found::New
+        } else {
+            Found::Lost
+        },
+        ..older
+    }
 }
 
-fn read(device: &[[u8; 28]]) -> Reading
+fn read(device: &[Place]) -> Reading
     requires { length device.now ≡ 8192 }
-    ensures { Recovered (device_of device.now) result.rows result.active result.highest result.found }
+    ensures { Recovered (device_of device.now) result }
 {
-    choose(scan_row(device, 0), scan_row(device, ROW))
+    let (row0, row1) = device.split_at(ROW);
+    choose(scan_row(row0), scan_row(row1))
 }
 
-fn load(device: &mut Vec<[u8; 28]>, bytes: &[u8])
-    requires { (vec_len device.old ≡ 0) × ((8192 ≤ vec_capacity device.old) × (length bytes.now ≡ 229376)) }
-    ensures { Divided bytes.now device.new.items }
+// Sets each lease of a row's records in its place of the table, if it has one there.
+fn restore(row: &[Place], table: &mut [Option<Lease>])
+    ensures { (a : ℕ) → a < length table.new → slice_index_or table.new a None ≡ table_of (λ k. place_of (slice_index_or row.now k [])) (length row.now) a }
 {
-    for i in 0..PLACES {
-        let mut place = [0u8; 28];
-        place.copy_from_slice(&bytes[i * 28..i * 28 + 28]);
-        device.push_reserved(place);
+    table.fill(None);
+    for place in row {
+        if let Some(record) = Record::decode(place) {
+            put_lease(table, record.lease);
+        }
     }
 }
 
-// Sets each lease of the row's first records in its place of the table, if it has one there.
-fn restore(device: &[[u8; 28]], from: usize, count: usize, table: &mut [Option<Lease>])
-    requires { from + count ≤ length device.now }
-    ensures { (a : ℕ) → a < length table.new → slice_index_or table.new a None ≡ table_of (λ k. place_of (slice_index_or device.now (from + k) [])) count a }
+// A lease whose address the table does not have is passed over. By index: after a write through a slice's get_mut std says its length alone.
+fn put_lease(table: &mut [Option<Lease>], lease: Lease)
+    ensures { (a : ℕ) → a < length table.new → slice_index_or table.new a None ≡ set lease (table_in table.old) a }
 {
-    for i in 0..table.len() {
-        table[i] = None;
-    }
-    for k in 0..count {
-        put_record(table, Record::decode(&device[from + k]));
-    }
-}
-
-// A lease whose address the table does not have is passed over.
-fn put_record(table: &mut [Option<Lease>], record: Option<Record>)
-    ensures { (a : ℕ) → a < length table.new → slice_index_or table.new a None ≡ put_in (place_from «record» false) (table_in table.old) a }
-{
-    let Some(found) = record else {
-        return;
-    };
-    let at = usize::from(found.lease.address);
+    let at = usize::from(lease.address);
     if at < table.len() {
-        table[at] = Some(found.lease);
+        table[at] = Some(lease);
     }
 }
 
@@ -172,10 +123,20 @@ pub fn device_places() -> usize
     PLACES
 }
 
+// A journal over the places of its device.
+fn journal_over(device: Vec<Place>) -> Journal
+    requires { vec_len device ≡ 8192 }
+    ensures device { result.device.items ≡ device.items }
+    ensures journal { HasRead result }
+{
+    let reading = read(&device);
+    Journal { device, reading }
+}
+
 impl Journal {
     // A device's bytes, read into room for its places. Nothing is allocated here or later.
-    pub fn open(room: Vec<[u8; 28]>, bytes: &[u8]) -> Result<Journal, OpenError>
-        ensures { MatchResult result (λ j. Divided bytes.now j.device.items × Recovered (device_of j.device.items) j.rows j.active j.highest j.found) (λ e. OpenRefused e (length bytes.now) (vec_capacity room)) }
+    pub fn open(room: Vec<Place>, bytes: &[u8]) -> Result<Journal, OpenError>
+        ensures { MatchResult result (λ j. Divided bytes.now j.device.items × HasRead j) (λ e. OpenRefused e (length bytes.now) (vec_capacity room)) }
     {
         if bytes.len() != DEVICE {
             return Err(OpenError::WrongLength);
@@ -185,74 +146,72 @@ impl Journal {
         }
         let mut device = room;
         device.clear();
-        load(&mut device, bytes);
-        let reading = read(&device);
-        let rows = reading.rows;
-        Ok(Journal {
-            device,
-            rows,
-            active: reading.active,
-            highest: reading.highest,
-            found: reading.found,
-        })
+        let (places, _) = bytes.as_chunks();
+        device.extend_from_slice(places).unwrap();
+        Ok(journal_over(device))
+    }
+
+    // A device's bytes, read into room that is asked for here.
+    pub fn read(heap: Global, bytes: &[u8]) -> Result<Journal, OpenError>
+        ensures { MatchResult result (λ j. Divided bytes.now j.device.items × HasRead j) (λ e. ReadRefused e (length bytes.now)) }
+    {
+        if bytes.len() != DEVICE {
+            return Err(OpenError::WrongLength);
+        }
+        let room = Vec::with_capacity(heap, PLACES)?;
+        Journal::open(room, bytes)
+    }
+
+    // A device of zeros alone.
+    pub fn blank(heap: Global) -> Result<Journal, AllocError>
+        ensures zeros { IfOk result (λ j. (places_of j ≡ blank_device) × (cursor_of j ≡ cursor 4096 blank_device)) }
+        ensures new { IfOk result (λ j. found_of j ≡ New) }
+    {
+        let device = vec![in heap; [0u8; PLACE]; PLACES]?;
+        Ok(journal_over(device))
     }
 
     // Reads the device anew, as after a crash, and fills the table, which has a place for each address of the pool.
     pub fn recover(&mut self, table: &mut [Option<Lease>]) -> Found
         ensures device { self.new.device.items ≡ self.old.device.items }
-        ensures journal { Recovered (device_of self.new.device.items) self.new.rows self.new.active self.new.highest self.new.found }
-        ensures found { result ≡ self.new.found }
-        ensures table { (a : ℕ) → a < length table.new → slice_index_or table.new a None ≡ leases 4096 (device_of self.new.device.items) a }
+        ensures journal { HasRead self.new }
+        ensures found { result ≡ found_of self.new }
+        ensures table { (a : ℕ) → a < length table.new → slice_index_or table.new a None ≡ leases 4096 (places_of self.new) a }
         ensures ready { Rereads self.new table.new }
     {
-        let reading = read(&self.device);
-        restore(&self.device, reading.active * ROW, reading.count(), table);
-        let rows = reading.rows;
-        self.rows = rows;
-        self.active = reading.active;
-        self.highest = reading.highest;
-        self.found = reading.found;
-        reading.found
+        self.reading = read(&self.device);
+        let start = self.reading.side.place(0);
+        restore(&self.device[start..start + self.reading.count()], table);
+        self.reading.found
     }
 
     // What the last reading found; a table once a lease is written.
     pub fn found(&self) -> Found
-        ensures { result ≡ self.now.found }
+        ensures { result ≡ found_of self.now }
     {
-        self.found
+        self.reading.found
     }
 
     // The bytes of a place, for whoever makes it durable.
-    pub fn place(&self, k: usize) -> Option<[u8; 28]>
+    pub fn place(&self, k: usize) -> Option<Place>
         ensures { result ≡ (if ltb k 8192 then Some (slice_index_or self.now.device.items k []) else None) }
     {
-        if k < PLACES {
-            return Some(self.device[k]);
-        }
-        None
+        self.device.get(k).copied()
     }
 
-    // Copies a place into its part of an image of the device, if the image has it.
+    // Copies a place into its part of an image of the device, if the image has it. By index, as in `put_lease`.
     pub fn store(&self, k: usize, image: &mut [u8]) -> bool
         ensures test { result ≡ (nat_lt k 8192 && nat_le (k * 28 + 28) (length image.old)) }
         ensures image { image.new ≡ (if result then paste image.old (k * 28) (slice_index_or self.now.device.items k []) 28 else image.old) }
     {
-        if k >= PLACES {
+        let Some(place) = self.device.get(k) else {
+            return false;
+        };
+        let at = k * PLACE;
+        if image.len() < at + PLACE {
             return false;
         }
-        let at = k * 28;
-        if image.len() < at + 28 {
-            return false;
-        }
-        let place = self.device[k];
-        fill(&mut image[at..at + 28], &place);
+        image[at..at + PLACE].copy_from_slice(place);
         true
     }
-}
-
-fn fill(part: &mut [u8], place: &[u8; 28])
-    requires { length part.old ≡ 28 }
-    ensures { part.new ≡ place.now }
-{
-    part.copy_from_slice(place);
 }

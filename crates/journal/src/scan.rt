@@ -1,9 +1,9 @@
-ghost use Rattle.std.specs.Prelude.{◌≡◌, ℕ, ◌+◌, ◌<◌, ◌≤◌, [], length, slice_index_or};
-ghost use Rattle.journal.specs.Bytes.{place_from, place_of, zeros};
+ghost use Rattle.std.specs.Prelude.{◌≡◌, ◌<◌, [], length, slice_index_or};
+ghost use Rattle.journal.specs.Bytes.{place_of, zeros};
 ghost use Rattle.journal.specs.Image.{noted, row_noted, scanned};
 
 use crate::record::Record;
-use crate::state::{ROW, RowState};
+use crate::state::{Place, RowState};
 
 // A row as far as it is read, with the highest sequence number in it, read or not, and whether all of it is zeros.
 #[derive(Clone, Copy)]
@@ -16,16 +16,11 @@ pub struct RowScan {
 fn is_zero(place: &[u8]) -> bool
     ensures { result ≡ zeros place.now }
 {
-    for byte in place {
-        if *byte != 0 {
-            return false;
-        }
-    }
-    true
+    place.iter().all(|byte| *byte == 0)
 }
 
 impl RowState {
-    // The row with the record of its place `k`.
+    // The row with the record of its place `k`: below 4096 here, in `RowScan::noted` and `Side::place`; a type for a row's place would be made and taken apart at each.
     fn noted(self, k: usize, record: Record) -> RowState
         requires { k < 4096 }
         ensures { result ≡ row_noted self k «record» }
@@ -37,14 +32,10 @@ impl RowState {
                 count: 1,
             };
         }
-        if self.count == k
-            && record.sequence >= self.first
-            && record.sequence - self.first == k as u64
-        {
+        if self.count == k && record.sequence.checked_sub(self.first) == Some(k as u64) {
             return RowState {
-                first: self.first,
-                base: self.base,
                 count: k + 1,
+                ..self
             };
         }
         self
@@ -52,32 +43,29 @@ impl RowState {
 }
 
 impl RowScan {
-    fn noted(self, k: usize, place: Option<Record>, zero: bool) -> RowScan
+    // The scan with what stands in its place `k`.
+    fn noted(self, k: usize, place: &[u8]) -> RowScan
         requires { k < 4096 }
-        ensures { result ≡ noted self k (place_from place zero) }
+        ensures { result ≡ noted self k (place_of place.now) }
     {
-        let Some(found) = place else {
-            if zero {
-                return self;
-            }
-            return RowScan {
-                row: self.row,
-                highest: self.highest,
+        match Record::decode(place) {
+            Some(record) => RowScan {
+                row: self.row.noted(k, record),
+                highest: self.highest.max(record.sequence),
                 blank: false,
-            };
-        };
-        RowScan {
-            row: self.row.noted(k, found),
-            highest: self.highest.max(found.sequence),
-            blank: false,
+            },
+            None => RowScan {
+                blank: self.blank && is_zero(place),
+                ..self
+            },
         }
     }
 }
 
-// The row of the 4,096 places from one on, read in one pass.
-pub(crate) fn scan_row(device: &[[u8; 28]], from: usize) -> RowScan
-    requires { from + 4096 ≤ length device.now }
-    ensures { result ≡ scanned (λ k. place_of (slice_index_or device.now (from + k) [])) 4096 }
+// A row, read in one pass.
+pub(crate) fn scan_row(row: &[Place]) -> RowScan
+    requires { length row.now ≡ 4096 }
+    ensures { result ≡ scanned (λ k. place_of (slice_index_or row.now k [])) 4096 }
 {
     let mut scan = RowScan {
         row: RowState {
@@ -88,9 +76,8 @@ pub(crate) fn scan_row(device: &[[u8; 28]], from: usize) -> RowScan
         highest: 0,
         blank: true,
     };
-    for k in 0..ROW {
-        let place = &device[from + k];
-        scan = scan.noted(k, Record::decode(place), is_zero(place));
+    for (k, place) in row.iter().enumerate() {
+        scan = scan.noted(k, place);
     }
     scan
 }

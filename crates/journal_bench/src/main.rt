@@ -1,9 +1,9 @@
 #![tactic(auto)]
 
 // How fast the journal recovers and appends, with the argument `time`; else what it leaves, the same in every run.
-use anyhow::anyhow;
+use anyhow::{anyhow, bail};
 use checksum::crc32c;
-use journal::{Journal, OpenError, device_bytes, device_places};
+use journal::{Journal, device_bytes, device_places};
 use lease::Lease;
 use std::alloc::Global;
 use std::env;
@@ -24,19 +24,9 @@ const OPENINGS: usize = 50;
 // The best of several rounds is the one that the machine's other work disturbed least.
 const ROUNDS: usize = 7;
 
-fn opened(heap: Global, image: &[u8]) -> anyhow::Result<Journal> {
-    let room = Vec::with_capacity(heap, device_places())?;
-    match Journal::open(room, image) {
-        Ok(journal) => Ok(journal),
-        Err(OpenError::WrongLength) => Err(anyhow!("wrong length")),
-        Err(OpenError::NoRoom) => Err(anyhow!("no room")),
-    }
-}
-
 // Lends one address after the other, a tick each, from a new device on.
 fn lend(heap: Global, term: u64) -> anyhow::Result<Journal> {
-    let image = vec![in heap; 0u8; device_bytes()]?;
-    let mut journal = opened(heap, &image)?;
+    let mut journal = Journal::blank(heap)?;
     let mut table: Vec<Option<Lease>> = vec![in heap; None; ADDRESSES]?;
     for clock in 0..APPENDS {
         let at = clock as usize % ADDRESSES;
@@ -45,21 +35,34 @@ fn lend(heap: Global, term: u64) -> anyhow::Result<Journal> {
             client: clock as u32,
             expires: clock.wrapping_add(term),
         };
-        if journal.append(clock, &table, lease).is_err() {
-            return Err(anyhow!("an append is refused"));
-        }
-        if at < table.len() {
-            table[at] = Some(lease);
+        journal
+            .append(clock, &table, lease)
+            .map_err(|_| anyhow!("an append is refused"))?;
+        if let Some(entry) = table.get_mut(at) {
+            *entry = Some(lease);
         }
     }
     Ok(journal)
 }
 
+// What a step gives, and the microseconds that it took.
+fn timed<T: Drop, F: FnOnce() -> anyhow::Result<T>>(
+    rt: &HostRuntime,
+    step: F,
+) -> anyhow::Result<(T, u128)>
+    requires { F.IsAlwaysCallable step }
+{
+    let start = Instant::now(rt)?;
+    let value = step()?;
+    Ok((value, start.elapsed(rt)?.as_micros()))
+}
+
+// By place, since that is what the journal is asked for.
 fn image_of(heap: Global, journal: &Journal) -> anyhow::Result<Vec<u8>> {
     let mut image = vec![in heap; 0u8; device_bytes()]?;
     for k in 0..device_places() {
         if !journal.store(k, &mut image) {
-            return Err(anyhow!("no such place"));
+            bail!("no such place");
         }
     }
     Ok(image)
@@ -70,12 +73,10 @@ fn recover(heap: Global, image: &[u8]) -> anyhow::Result<u32> {
     let mut table: Vec<Option<Lease>> = vec![in heap; None; ADDRESSES]?;
     let mut sum: u32 = 0;
     for _ in 0..OPENINGS {
-        let mut journal = opened(heap, image)?;
+        let mut journal = Journal::read(heap, image)?;
         let _ = journal.recover(&mut table);
-        for entry in table.iter() {
-            if let Some(lease) = entry {
-                sum = sum.wrapping_add(lease.client);
-            }
+        for lease in table.iter().flatten() {
+            sum = sum.wrapping_add(lease.client);
         }
     }
     Ok(sum)
@@ -98,30 +99,26 @@ fn print_times(rt: &HostRuntime, heap: Global) -> anyhow::Result<()> {
     let mut few_best = u128::MAX;
     let mut sums: u32 = 0;
     for _ in 0..ROUNDS {
-        let start = Instant::now(rt)?;
-        let live = lend(heap, LONG)?;
-        live_best = live_best.min(start.elapsed(rt)?.as_micros());
-        let start = Instant::now(rt)?;
-        let few = lend(heap, SHORT)?;
-        few_best = few_best.min(start.elapsed(rt)?.as_micros());
+        let (live, live_time) = timed(rt, || lend(heap, LONG))?;
+        let (few, few_time) = timed(rt, || lend(heap, SHORT))?;
         let image = image_of(heap, &live)?;
-        let start = Instant::now(rt)?;
-        sums ^= recover(heap, &image)?;
-        open_best = open_best.min(start.elapsed(rt)?.as_micros());
-        sums ^= crc32c(&image) ^ crc32c(&image_of(heap, &few)?);
+        let (recovered, open_time) = timed(rt, || recover(heap, &image))?;
+        live_best = live_best.min(live_time);
+        few_best = few_best.min(few_time);
+        open_best = open_best.min(open_time);
+        sums ^= recovered ^ crc32c(&image) ^ crc32c(&image_of(heap, &few)?);
     }
     println!(rt; "sums {sums:08x} open {open_best} live {live_best} few {few_best}")?;
     Ok(())
 }
 
-fn run(rt: &HostRuntime) -> anyhow::Result<()> {
-    let heap = rt.alloc();
-    match env::args(rt)?.nth(1) {
-        Some(word) if word.as_str() == "time" => print_times(rt, heap),
-        _ => print_sums(rt, heap),
-    }
-}
-
 fn main(rt: HostRuntime) -> anyhow::Result<()> {
-    run(&rt)
+    let heap = rt.alloc();
+    if env::args(&rt)?
+        .nth(1)
+        .is_some_and(|word| word.as_str() == "time")
+    {
+        return print_times(&rt, heap);
+    }
+    print_sums(&rt, heap)
 }

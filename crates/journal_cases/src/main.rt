@@ -1,13 +1,19 @@
 #![tactic(auto)]
 
 // Plays appends, crashes within them and restarts on a device in memory, and then devices of every kind; prints what is found.
-ghost use Rattle.std.specs.Prelude.{◌<◌};
+ghost use Rattle.std.specs.Prelude.{◌<◌, ◌≤◌};
 
-use anyhow::anyhow;
+use anyhow::{Context, anyhow, bail};
 use checksum::crc32c;
 use journal::{Found, Journal, OpenError, Record, Written, device_bytes, device_places};
 use lease::{Fault, Lease};
 use std::alloc::Global;
+
+// The bytes of a place.
+const PLACE: usize = 28;
+
+// The places of a row.
+const ROW: usize = 4096;
 
 const ADDRESSES: usize = 6;
 
@@ -15,86 +21,85 @@ const ADDRESSES: usize = 6;
 const STEPS: u32 = 1_100_000;
 
 // Numbers that look drawn, the same in every run.
-fn draw(random: &mut u32, below: u32) -> u32
-    requires { 0 < below }
-    ensures { result < below }
-{
-    *random = random.wrapping_mul(1_664_525).wrapping_add(1_013_904_223);
-    (*random >> 8) % below
+#[derive(Clone, Copy)]
+struct Random {
+    state: u32,
 }
 
-fn opened(heap: Global, image: &[u8]) -> anyhow::Result<Journal> {
-    let room = Vec::with_capacity(heap, device_places())?;
-    match Journal::open(room, image) {
-        Ok(journal) => Ok(journal),
-        Err(OpenError::WrongLength) => Err(anyhow!("wrong length")),
-        Err(OpenError::NoRoom) => Err(anyhow!("no room")),
+impl Random {
+    fn draw(&mut self, below: u32) -> u32
+        requires { 0 < below }
+        ensures { result < below }
+    {
+        self.state = self
+            .state
+            .wrapping_mul(1_664_525)
+            .wrapping_add(1_013_904_223);
+        (self.state >> 8) % below
     }
 }
 
 // The first bytes of a place go to the image.
-fn persist(image: &mut [u8], journal: &Journal, k: usize, bytes: usize) {
-    if let Some(place) = journal.place(k) {
-        for i in 0..28 {
-            if i < bytes && k < 8192 && k * 28 + i < image.len() {
-                image[k * 28 + i] = place[i];
-            }
-        }
+fn persist(image: &mut [[u8; PLACE]], journal: &Journal, k: usize, bytes: usize)
+    requires { bytes ≤ 28 }
+{
+    if let (Some(place), Some(part)) = (journal.place(k), image.get_mut(k)) {
+        part[..bytes].copy_from_slice(&place[..bytes]);
     }
 }
 
-fn clear(image: &mut [u8], k: usize) {
-    for i in 0..28 {
-        if k < 8192 && k * 28 + i < image.len() {
-            image[k * 28 + i] = 0;
-        }
+fn clear(image: &mut [[u8; PLACE]], k: usize) {
+    if let Some(part) = image.get_mut(k) {
+        *part = [0; PLACE];
     }
 }
 
 // A crash after so many whole writes, which cuts the next; tells whether all the same every record stands.
-fn cut(image: &mut [u8], journal: &Journal, written: Written, random: &mut u32) -> bool {
+fn cut(
+    image: &mut [[u8; PLACE]],
+    journal: &Journal,
+    written: Written,
+    random: &mut Random,
+) -> bool {
     let Ok(count) = u32::try_from(written.count) else {
         return false;
     };
-    if count == 0 || written.first > 8192 {
+    if count == 0 || written.first > device_places() {
         return false;
     }
-    let whole = draw(random, count);
-    for j in 0..whole {
-        persist(image, journal, written.first + j as usize, 28);
+    let whole = random.draw(count);
+    for k in (written.first..).take(whole as usize) {
+        persist(image, journal, k, PLACE);
     }
     let k = written.first + whole as usize;
-    let way = draw(random, 4);
-    match way {
-        0 => {}
-        1 => persist(image, journal, k, 28),
-        2 => persist(image, journal, k, 14),
-        _ => clear(image, k),
+    match random.draw(4) {
+        0 => false,
+        1 => {
+            persist(image, journal, k, PLACE);
+            whole == count - 1
+        }
+        2 => {
+            persist(image, journal, k, PLACE / 2);
+            false
+        }
+        _ => {
+            clear(image, k);
+            false
+        }
     }
-    way == 1 && whole == count - 1
 }
 
 fn show(
     rt: &HostRuntime,
-    what: u32,
+    case: u32,
     found: Found,
-    image: &[u8],
+    image: &[[u8; PLACE]],
     table: &[Option<Lease>],
 ) -> anyhow::Result<()> {
-    let found = match found {
-        Found::New => "new",
-        Found::Lost => "lost",
-        Found::Table => "table",
-    };
-    let sum = crc32c(image);
-    print!(rt; "{what} {found} {sum:08x}")?;
+    print!(rt; "{case} {found} {:08x}", crc32c(image.as_flattened()))?;
     for entry in table {
         match entry {
-            Some(lease) => {
-                let client = lease.client;
-                let expires = lease.expires;
-                print!(rt; " {client}:{expires}")?;
-            }
+            Some(lease) => print!(rt; " {}:{}", lease.client, lease.expires)?,
             None => print!(rt; " -")?,
         }
     }
@@ -102,18 +107,18 @@ fn show(
     Ok(())
 }
 
-fn drawn(random: &mut u32, clock: u64) -> Lease
+fn drawn(random: &mut Random, clock: u64) -> Lease
     requires { clock < 1000000000 }
 {
     Lease {
-        address: draw(random, 7) as u16,
-        client: draw(random, 50),
-        expires: clock + u64::from(draw(random, 60)),
+        address: random.draw(7) as u16,
+        client: random.draw(50),
+        expires: clock + u64::from(random.draw(60)),
     }
 }
 
 // What has happened so far, and a digest of each table that was recovered.
-#[derive(Clone, Copy)]
+#[derive(Clone, Copy, Default)]
 struct Tally {
     answered: u32,
     switches: u32,
@@ -142,61 +147,48 @@ fn digest_of(before: u64, table: &[Option<Lease>]) -> u64 {
     digest
 }
 
-// The same lease, or one that is over on both sides.
-fn alike(clock: u64, found: Option<Lease>, answered: Option<Lease>) -> bool {
-    match (found, answered) {
-        (Some(a), Some(b)) => {
-            let same = a.address == b.address && a.client == b.client && a.expires == b.expires;
-            same || (a.expires < clock && b.expires < clock)
-        }
-        (Some(lease), None) | (None, Some(lease)) => lease.expires < clock,
-        (None, None) => true,
-    }
-}
-
 // Whether a recovered table has the live leases that were answered for, and no other.
 fn is_answered(clock: u64, found: &[Option<Lease>], answered: &[Option<Lease>]) -> bool {
-    if found.len() != answered.len() {
-        return false;
-    }
-    for i in 0..found.len() {
-        if !alike(clock, found[i], answered[i]) {
-            return false;
-        }
-    }
-    true
+    let live = |entry: Option<Lease>| entry.filter(|lease| clock <= lease.expires);
+    found.len() == answered.len()
+        && found
+            .iter()
+            .zip(answered)
+            .all(|(a, b)| live(*a) == live(*b))
 }
 
 fn set(table: &mut [Option<Lease>], lease: Lease) {
-    let at = usize::from(lease.address);
-    if at < table.len() {
-        table[at] = Some(lease);
+    if let Some(entry) = table.get_mut(usize::from(lease.address)) {
+        *entry = Some(lease);
     }
 }
 
 fn begins_row(written: Written) -> bool {
-    written.first % 4096 == 0
+    written.first % ROW == 0
 }
 
-fn persist_all(image: &mut [u8], journal: &Journal, written: Written) {
-    for j in 0..written.count {
-        if written.first <= 8192 && j < 8192 {
-            persist(image, journal, written.first + j, 28);
-        }
+fn persist_all(image: &mut [[u8; PLACE]], journal: &Journal, written: Written) {
+    for k in (written.first..device_places()).take(written.count) {
+        persist(image, journal, k, PLACE);
     }
 }
 
-fn show_tally(rt: &HostRuntime, steps: u32, tally: &Tally, image: &[u8]) -> anyhow::Result<()> {
-    let answered = tally.answered;
-    let switches = tally.switches;
-    let bare = tally.bare_switches;
-    let cuts = tally.cuts;
-    let cut_switches = tally.cut_switches;
-    let stood = tally.stood;
-    let digest = tally.digest;
-    let sum = crc32c(image);
+fn show_tally(
+    rt: &HostRuntime,
+    steps: u32,
+    tally: &Tally,
+    image: &[[u8; PLACE]],
+) -> anyhow::Result<()> {
     println!(rt;
-        "{steps}: {answered} answered, {switches} switches, {bare} with no live lease, {cuts} cuts, {cut_switches} in switches, {stood} stood, tables {digest:016x}, device {sum:08x}"
+        "{steps}: {} answered, {} switches, {} with no live lease, {} cuts, {} in switches, {} stood, tables {:016x}, device {:08x}",
+        tally.answered,
+        tally.switches,
+        tally.bare_switches,
+        tally.cuts,
+        tally.cut_switches,
+        tally.stood,
+        tally.digest,
+        crc32c(image.as_flattened()),
     )?;
     Ok(())
 }
@@ -204,7 +196,7 @@ fn show_tally(rt: &HostRuntime, steps: u32, tally: &Tally, image: &[u8]) -> anyh
 // A server in memory: its device, its table, and the leases that were answered whether it still knows them or not.
 #[derive(Drop)]
 struct Server {
-    image: Vec<u8>,
+    image: Vec<[u8; PLACE]>,
     journal: Journal,
     table: Vec<Option<Lease>>,
     answered: Vec<Option<Lease>>,
@@ -213,20 +205,14 @@ struct Server {
 
 impl Server {
     fn new(heap: Global) -> anyhow::Result<Server> {
-        let image = vec![in heap; 0u8; device_bytes()]?;
         Ok(Server {
-            journal: opened(heap, &image)?,
-            image,
+            image: vec![in heap; [0; PLACE]; device_places()]?,
+            journal: Journal::blank(heap)?,
             table: vec![in heap; None; ADDRESSES]?,
             answered: vec![in heap; None; ADDRESSES]?,
             tally: Tally {
-                answered: 0,
-                switches: 0,
-                bare_switches: 0,
-                cuts: 0,
-                cut_switches: 0,
-                stood: 0,
                 digest: 14_695_981_039_346_656_037,
+                ..Tally::default()
             },
         })
     }
@@ -251,17 +237,17 @@ impl Server {
         clock: u64,
         written: Written,
         lease: Lease,
-        random: &mut u32,
+        random: &mut Random,
     ) -> anyhow::Result<()> {
         let stands = cut(&mut self.image, &self.journal, written, random);
         if stands {
             set(&mut self.answered, lease);
             self.tally.stood = self.tally.stood.wrapping_add(1);
         }
-        self.journal = opened(heap, &self.image)?;
+        self.journal = Journal::read(heap, self.image.as_flattened())?;
         let _ = self.journal.recover(&mut self.table);
         if !is_answered(clock, &self.table, &self.answered) {
-            return Err(anyhow!("recovery gives another table than was answered"));
+            bail!("recovery gives another table than was answered");
         }
         self.tally.cuts = self.tally.cuts.wrapping_add(1);
         if begins_row(written) {
@@ -274,24 +260,25 @@ impl Server {
 
 fn play(rt: &HostRuntime, heap: Global) -> anyhow::Result<()> {
     let mut server = Server::new(heap)?;
-    let mut random: u32 = 7;
+    let mut random = Random { state: 7 };
     let mut clock: u64 = 0;
-    for step in 1..STEPS + 1 {
-        if draw(&mut random, 16) == 0 && clock < 999_999_000 {
-            clock += u64::from(draw(&mut random, 40));
+    for step in 1..=STEPS {
+        if random.draw(16) == 0 && clock < 999_999_000 {
+            clock += u64::from(random.draw(40));
         }
         if clock >= 1_000_000_000 {
-            return Err(anyhow!("the clock is late"));
+            bail!("the clock is late");
         }
         let lease = drawn(&mut random, clock);
-        let Ok(written) = server.journal.append(clock, &server.table, lease) else {
-            return Err(anyhow!("an append is refused"));
-        };
+        let written = server
+            .journal
+            .append(clock, &server.table, lease)
+            .map_err(|_| anyhow!("an append is refused"))?;
         let chance = if begins_row(written) { 2 } else { 90 };
-        if draw(&mut random, chance) == 0 {
+        if random.draw(chance) == 0 {
             server.crash(heap, clock, written, lease, &mut random)?;
             // down for so long that nothing is live any more
-            if draw(&mut random, 3) == 0 {
+            if random.draw(3) == 0 {
                 clock += 100;
             }
         } else {
@@ -304,100 +291,99 @@ fn play(rt: &HostRuntime, heap: Global) -> anyhow::Result<()> {
     Ok(())
 }
 
-// Records on devices that are zeros otherwise: case, place, sequence, base, address, client.
-static SEEDS: [(u32, usize, u64, u16, u16, u32); 22] = [
-    // sequence numbers at their end
-    (2, 0, 9_223_372_036_854_775_806, 0, 0, 1),
-    (3, 0, 18_446_744_073_709_551_615, 0, 0, 1),
-    (4, 4101, 18_446_744_073_709_551_615, 0, 0, 1),
-    (5, 0, 0, 0, 0, 1),
-    // which row is taken
-    (6, 0, 5, 0, 0, 1),
-    (6, 4096, 5, 0, 0, 2),
-    (7, 0, 5, 0, 0, 1),
-    (7, 4096, 6, 0, 0, 2),
-    (8, 0, 5, 0, 0, 1),
-    (8, 4096, 6, 2, 0, 2),
-    (9, 0, 5, 2, 0, 1),
-    (9, 4096, 4, 1, 0, 2),
-    // neither row is whole
-    (10, 0, 9, 3, 0, 1),
-    (11, 4103, 100, 0, 0, 1),
-    (12, 0, 1, 4096, 0, 1),
-    // a gap ends a row
-    (13, 0, 1, 0, 0, 1),
-    (13, 1, 2, 0, 2, 2),
-    (13, 3, 4, 0, 3, 3),
-    (14, 1, 3, 0, 2, 2),
-    // an address that the pool does not have, and one twice
-    (15, 0, 1, 0, 9, 1),
-    (15, 1, 2, 0, 5, 2),
-    (15, 2, 3, 0, 5, 3),
-];
+fn sow(image: &mut [[u8; PLACE]], k: usize, record: Record) {
+    if let Some(part) = image.get_mut(k) {
+        record.encode(part);
+    }
+}
 
-fn sow(image: &mut [u8], k: usize, record: Record) {
-    let mut place = [0u8; 28];
-    record.encode(&mut place);
-    for i in 0..28 {
-        if k < 8192 && k * 28 + i < image.len() {
-            image[k * 28 + i] = place[i];
+// A record of a case's device, and its place.
+#[derive(Clone, Copy)]
+struct Seed {
+    case: u32,
+    place: usize,
+    record: Record,
+}
+
+impl Seed {
+    fn new(case: u32, place: usize, sequence: u64, base: u16, address: u16, client: u32) -> Seed {
+        let lease = Lease {
+            address,
+            client,
+            expires: 50,
+        };
+        let record = Record {
+            sequence,
+            base,
+            lease,
+        };
+        Seed {
+            case,
+            place,
+            record,
         }
     }
 }
 
-fn sow_all(image: &mut [u8], what: u32) {
-    for i in 0..22 {
-        let (case, k, sequence, base, address, client) = SEEDS[i];
-        if case == what {
-            let lease = Lease {
-                address,
-                client,
-                expires: 50,
-            };
-            sow(
-                image,
-                k,
-                Record {
-                    sequence,
-                    base,
-                    lease,
-                },
-            );
-        }
+// Records on a device that is zeros otherwise.
+fn sow_all(image: &mut [[u8; PLACE]], case: u32) {
+    let seeds = [
+        // sequence numbers at their end
+        Seed::new(2, 0, 9_223_372_036_854_775_806, 0, 0, 1),
+        Seed::new(3, 0, 18_446_744_073_709_551_615, 0, 0, 1),
+        Seed::new(4, ROW + 5, 18_446_744_073_709_551_615, 0, 0, 1),
+        Seed::new(5, 0, 0, 0, 0, 1),
+        // which row is taken
+        Seed::new(6, 0, 5, 0, 0, 1),
+        Seed::new(6, ROW, 5, 0, 0, 2),
+        Seed::new(7, 0, 5, 0, 0, 1),
+        Seed::new(7, ROW, 6, 0, 0, 2),
+        Seed::new(8, 0, 5, 0, 0, 1),
+        Seed::new(8, ROW, 6, 2, 0, 2),
+        Seed::new(9, 0, 5, 2, 0, 1),
+        Seed::new(9, ROW, 4, 1, 0, 2),
+        // neither row is whole
+        Seed::new(10, 0, 9, 3, 0, 1),
+        Seed::new(11, ROW + 7, 100, 0, 0, 1),
+        Seed::new(12, 0, 1, 4096, 0, 1),
+        // a gap ends a row
+        Seed::new(13, 0, 1, 0, 0, 1),
+        Seed::new(13, 1, 2, 0, 2, 2),
+        Seed::new(13, 3, 4, 0, 3, 3),
+        Seed::new(14, 1, 3, 0, 2, 2),
+        // an address that the pool does not have, and one twice
+        Seed::new(15, 0, 1, 0, 9, 1),
+        Seed::new(15, 1, 2, 0, 5, 2),
+        Seed::new(15, 2, 3, 0, 5, 3),
+    ];
+    for seed in seeds.iter().filter(|seed| seed.case == case) {
+        sow(image, seed.place, seed.record);
     }
 }
 
 fn tell(rt: &HostRuntime, journal: &Journal, answer: Result<Written, Fault>) -> anyhow::Result<()> {
     match answer {
         Ok(written) => {
-            let first = written.first;
-            let count = written.count;
-            let Some(place) = journal.place(first) else {
-                return Err(anyhow!("no place"));
-            };
-            let Some(record) = Record::decode(&place) else {
-                return Err(anyhow!("no record"));
-            };
-            let sequence = record.sequence;
-            let base = record.base;
-            println!(rt; "  at {first}, {count}: {sequence} of {base}")?;
+            let place = journal.place(written.first).context("no place")?;
+            let record = Record::decode(&place).context("no record")?;
+            println!(rt;
+                "  at {}, {}: {} of {}",
+                written.first, written.count, record.sequence, record.base
+            )?;
         }
-        Err(fault) => {
-            let number = fault.number();
-            println!(rt; "  fault {number}")?;
-        }
+        Err(fault) => println!(rt; "  fault {}", fault.number())?,
     }
     Ok(())
 }
 
 // A device of one case: what is found, and what two appends do to it.
-fn try_device(rt: &HostRuntime, heap: Global, what: u32) -> anyhow::Result<()> {
-    let mut image = vec![in heap; 0u8; device_bytes()]?;
-    sow_all(&mut image, what);
+fn try_device(rt: &HostRuntime, heap: Global, case: u32) -> anyhow::Result<()> {
+    let mut image = vec![in heap; [0; PLACE]; device_places()]?;
+    sow_all(&mut image, case);
     let mut table: Vec<Option<Lease>> = vec![in heap; None; ADDRESSES]?;
-    let mut journal = opened(heap, &image)?;
+    let mut journal = Journal::read(heap, image.as_flattened())?;
     let found = journal.recover(&mut table);
-    show(rt, what, found, &image, &table)?;
+    show(rt, case, found, &image, &table)?;
     for client in 90..92u32 {
         let lease = Lease {
             address: 1,
@@ -407,43 +393,43 @@ fn try_device(rt: &HostRuntime, heap: Global, what: u32) -> anyhow::Result<()> {
         let answer = journal.append(10, &table, lease);
         tell(rt, &journal, answer)?;
     }
-    for k in 0..8192 {
-        if !journal.store(k, &mut image) {
-            return Err(anyhow!("no such place"));
+    // by place, since that is what the journal is asked for
+    for k in 0..device_places() {
+        if !journal.store(k, image.as_flattened_mut()) {
+            bail!("no such place");
         }
     }
-    show(rt, what, journal.found(), &image, &table)
+    show(rt, case, journal.found(), &image, &table)
 }
 
-fn refusal(answer: Result<Journal, OpenError>) -> &'static str {
-    match answer {
-        Ok(_) => "opened",
-        Err(OpenError::WrongLength) => "wrong length",
-        Err(OpenError::NoRoom) => "no room",
+fn show_opening(rt: &HostRuntime, opening: Result<Journal, OpenError>) -> anyhow::Result<()> {
+    match opening {
+        Ok(_) => println!(rt; "opened")?,
+        Err(refusal) => println!(rt; "{refusal}")?,
     }
+    Ok(())
 }
 
 fn try_lengths(rt: &HostRuntime, heap: Global) -> anyhow::Result<()> {
-    let image = vec![in heap; 0u8; 229_377]?;
-    for n in [0, 28, 229_348, 229_375, 229_376, 229_377] {
-        if n <= image.len() {
+    let image = vec![in heap; 0u8; device_bytes() + 1]?;
+    for length in [0, 28, 229_348, 229_375, 229_376, 229_377] {
+        if let Some(bytes) = image.get(..length) {
+            print!(rt; "{length} bytes: ")?;
             let room = Vec::with_capacity(heap, device_places())?;
-            let what = refusal(Journal::open(room, &image[0..n]));
-            println!(rt; "{n} bytes: {what}")?;
+            show_opening(rt, Journal::open(room, bytes))?;
         }
     }
-    if image.len() >= 229_376 {
-        let what = refusal(Journal::open(Vec::new(heap), &image[0..229_376]));
-        println!(rt; "without room: {what}")?;
+    if let Some(bytes) = image.get(..device_bytes()) {
+        print!(rt; "without room: ")?;
+        show_opening(rt, Journal::open(Vec::new(heap), bytes))?;
     }
     Ok(())
 }
 
 fn try_pool(rt: &HostRuntime, heap: Global) -> anyhow::Result<()> {
-    let image = vec![in heap; 0u8; device_bytes()]?;
-    for n in [0, 4095, 4096] {
-        let table: Vec<Option<Lease>> = vec![in heap; None; n]?;
-        let mut journal = opened(heap, &image)?;
+    for addresses in [0, 4095, 4096] {
+        let table: Vec<Option<Lease>> = vec![in heap; None; addresses]?;
+        let mut journal = Journal::blank(heap)?;
         let lease = Lease {
             address: 1,
             client: 2,
@@ -455,16 +441,12 @@ fn try_pool(rt: &HostRuntime, heap: Global) -> anyhow::Result<()> {
     Ok(())
 }
 
-fn run(rt: &HostRuntime, heap: Global) -> anyhow::Result<()> {
-    try_lengths(rt, heap)?;
-    try_pool(rt, heap)?;
-    for what in 1..16u32 {
-        try_device(rt, heap, what)?;
-    }
-    play(rt, heap)
-}
-
 fn main(rt: HostRuntime) -> anyhow::Result<()> {
     let heap = rt.alloc();
-    run(&rt, heap)
+    try_lengths(&rt, heap)?;
+    try_pool(&rt, heap)?;
+    for case in 1..16 {
+        try_device(&rt, heap, case)?;
+    }
+    play(&rt, heap)
 }

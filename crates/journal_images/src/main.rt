@@ -1,60 +1,29 @@
 #![tactic(auto)]
 
 // Opens devices whose bytes are written down in files, and prints what each is found to be and where its next record goes.
-ghost use Rattle.std.specs.Prelude.{◌<◌, IfOk};
-
-use anyhow::anyhow;
-use journal::{Found, Journal, OpenError, Record, Written, device_bytes, device_places};
+use anyhow::{Context, bail};
+use journal::{Found, Journal, Record, Written, device_bytes, device_places};
 use lease::Lease;
 use std::alloc::Global;
 use std::fs;
+
+// The bytes of a place.
+const PLACE: usize = 28;
 
 const ADDRESSES: usize = 16;
 
 // Of the leases in the files, those that outlive this tick are live.
 const CLOCK: u64 = 1000;
 
-fn digit_of(byte: u8) -> anyhow::Result<u8>
-    ensures { IfOk result (λ d. d < 16) }
-{
-    match byte {
-        b'0'..=b'9' => Ok(byte - b'0'),
-        b'a'..=b'f' => Ok(byte - b'a' + 10),
-        _ => Err(anyhow!("no hexadecimal digit")),
-    }
-}
-
-fn bytes_of(heap: Global, text: &str) -> anyhow::Result<Vec<u8>> {
-    let mut bytes = Vec::new(heap);
-    let mut high = None;
-    for byte in text.bytes() {
-        let digit = digit_of(byte)?;
-        match high {
-            None => high = Some(digit),
-            Some(first) => {
-                bytes.push(first << 4 | digit)?;
-                high = None;
-            }
-        }
-    }
-    if high.is_some() {
-        return Err(anyhow!("half a byte"));
-    }
-    Ok(bytes)
-}
-
 fn put(image: &mut [u8], place: usize, bytes: &[u8]) -> anyhow::Result<()> {
-    if place >= 8192 {
-        return Err(anyhow!("no such place"));
+    if place >= device_places() {
+        bail!("no such place");
     }
-    let mut at = place * 28;
-    for byte in bytes {
-        if at >= image.len() {
-            return Err(anyhow!("past the device's end"));
-        }
-        image[at] = *byte;
-        at += 1;
-    }
+    let at = place * PLACE;
+    image
+        .get_mut(at..at + bytes.len())
+        .context("past the device's end")?
+        .copy_from_slice(bytes);
     Ok(())
 }
 
@@ -67,46 +36,32 @@ fn put_row(
     count: usize,
 ) -> anyhow::Result<()> {
     let row = fs::read(rt, file)?;
-    if count > 4096 || row.len() < count * 28 {
-        return Err(anyhow!("a row file is short"));
+    if count > device_places() / 2 {
+        bail!("a row file is short");
     }
-    put(image, place, &row[0..count * 28])
+    let front = row.get(..count * PLACE).context("a row file is short")?;
+    put(image, place, front)
 }
 
 // A device is mostly zeros, or a row that others have too. A line is a place and the bytes from there on, or a place, a row file and how many places of it stand from there on; a later line overwrites an earlier one.
 fn image_of(rt: &HostRuntime, heap: Global, file: &str) -> anyhow::Result<Vec<u8>> {
     let mut image = vec![in heap; 0u8; device_bytes()]?;
     let text = fs::read_to_string(rt, file)?;
-    for line in text.as_str().lines() {
-        let Some((place, rest)) = line.split_once(' ') else {
-            return Err(anyhow!("a line has a place and bytes"));
-        };
+    for line in text.lines() {
+        let (place, rest) = line
+            .split_once(' ')
+            .context("a line has a place and bytes")?;
         let place = place.parse::<usize>()?;
         match rest.split_once(' ') {
             Some((row, count)) => put_row(rt, &mut image, place, row, count.parse::<usize>()?)?,
-            None => {
-                let bytes = bytes_of(heap, rest)?;
-                put(&mut image, place, &bytes)?;
-            }
+            None => put(&mut image, place, &hex::decode(heap, rest)?)?,
         }
     }
     Ok(image)
 }
 
-fn opened(heap: Global, image: &[u8]) -> anyhow::Result<Journal> {
-    let room = Vec::with_capacity(heap, device_places())?;
-    match Journal::open(room, image) {
-        Ok(journal) => Ok(journal),
-        Err(OpenError::WrongLength) => Err(anyhow!("wrong length")),
-        Err(OpenError::NoRoom) => Err(anyhow!("no room")),
-    }
-}
-
 fn show_lease(rt: &HostRuntime, lease: &Lease) -> anyhow::Result<()> {
-    let address = lease.address;
-    let client = lease.client;
-    let expires = lease.expires;
-    print!(rt; " {address}:{client}:{expires}")?;
+    print!(rt; " {}:{}:{}", lease.address, lease.client, lease.expires)?;
     Ok(())
 }
 
@@ -116,31 +71,18 @@ fn show_found(
     found: Found,
     table: &[Option<Lease>],
 ) -> anyhow::Result<()> {
-    let found = match found {
-        Found::New => "new",
-        Found::Lost => "lost",
-        Found::Table => "table",
-    };
     print!(rt; "{name}: {found}")?;
-    for entry in table {
-        if let Some(lease) = entry {
-            show_lease(rt, lease)?;
-        }
+    for lease in table.iter().flatten() {
+        show_lease(rt, lease)?;
     }
     println!(rt; "")?;
     Ok(())
 }
 
 fn show_record(rt: &HostRuntime, journal: &Journal, k: usize) -> anyhow::Result<()> {
-    let Some(place) = journal.place(k) else {
-        return Err(anyhow!("no place"));
-    };
-    let Some(record) = Record::decode(&place) else {
-        return Err(anyhow!("no record"));
-    };
-    let sequence = record.sequence;
-    let base = record.base;
-    print!(rt; ", {sequence} of {base}")?;
+    let place = journal.place(k).context("no place")?;
+    let record = Record::decode(&place).context("no record")?;
+    print!(rt; ", {} of {}", record.sequence, record.base)?;
     show_lease(rt, &record.lease)
 }
 
@@ -148,11 +90,8 @@ fn show_written(rt: &HostRuntime, journal: &Journal, written: Written) -> anyhow
     let first = written.first;
     let count = written.count;
     print!(rt; "  at {first}, {count}")?;
-    if first >= 8192 || count > 8192 {
-        return Err(anyhow!("no such place"));
-    }
-    for j in 0..count {
-        show_record(rt, journal, first + j)?;
+    for k in first..first.saturating_add(count) {
+        show_record(rt, journal, k)?;
     }
     println!(rt; "")?;
     Ok(())
@@ -161,9 +100,9 @@ fn show_written(rt: &HostRuntime, journal: &Journal, written: Written) -> anyhow
 // What is found, and what an append then writes.
 fn try_image(rt: &HostRuntime, heap: Global, name: &str) -> anyhow::Result<()> {
     let file = format!(in heap; "{name}.txt")?;
-    let image = image_of(rt, heap, file.as_str())?;
+    let image = image_of(rt, heap, &file)?;
     let mut table: Vec<Option<Lease>> = vec![in heap; None; ADDRESSES]?;
-    let mut journal = opened(heap, &image)?;
+    let mut journal = Journal::read(heap, &image)?;
     let found = journal.recover(&mut table);
     show_found(rt, name, found, &table)?;
     let lease = Lease {
@@ -174,22 +113,17 @@ fn try_image(rt: &HostRuntime, heap: Global, name: &str) -> anyhow::Result<()> {
     match journal.append(CLOCK, &table, lease) {
         Ok(written) => show_written(rt, &journal, written),
         Err(fault) => {
-            let number = fault.number();
-            println!(rt; "  fault {number}")?;
+            println!(rt; "  fault {}", fault.number())?;
             Ok(())
         }
     }
 }
 
-fn run(rt: &HostRuntime, heap: Global) -> anyhow::Result<()> {
-    let names = fs::read_to_string(rt, "list.txt")?;
-    for name in names.as_str().lines() {
-        try_image(rt, heap, name)?;
-    }
-    Ok(())
-}
-
 fn main(rt: HostRuntime) -> anyhow::Result<()> {
     let heap = rt.alloc();
-    run(&rt, heap)
+    let names = fs::read_to_string(&rt, "list.txt")?;
+    for name in names.lines() {
+        try_image(&rt, heap, name)?;
+    }
+    Ok(())
 }

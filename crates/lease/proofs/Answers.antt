@@ -1,15 +1,13 @@
 -- What the server's answer says of its state.
 -- Assumes nothing.
-use Rattle.std.proofs.Common.{◌≡◌, ℕ, Bool, true, false, ◌&&◌, Some, None, Option, refl}
+use Rattle.std.proofs.Common.{◌≡◌, ℕ, Bool, true, false, ◌&&◌, Some, None, Ok, Err, Option, refl}
 use Rattle.std.proofs.lemmas.Bool.{cond_both, both_ways, and_parts}
-use Rattle.lease.specs.declared.answer.Answer.{Answer}
-use Rattle.lease.specs.declared.answer.Answer.TheVariants.{Unheard, Granted, Refused}
 use Rattle.lease.specs.declared.message.Request.{Request}
 use Rattle.lease.specs.declared.message.Grant.{Grant}
 use Rattle.lease.specs.Settings.{Settings}
 use Rattle.lease.specs.Choosing.{choose}
 use Rattle.lease.specs.World.{Server, is_silent, not_silent}
-use Rattle.lease.specs.Run.{answered, answer_up, answer}
+use Rattle.lease.specs.Run.{Answer, answered, answer_up, answer}
 
 -- a grant is of the chosen address, to who asked, by a server that lends
 pub record GrantedBy (s : Settings) (v : Server) (r : Request) (g : Grant) : Type 0 where
@@ -20,9 +18,9 @@ pub record GrantedBy (s : Settings) (v : Server) (r : Request) (g : Grant) : Typ
   pub nonce : g.nonce ≡ r.nonce
 
 abbrev pub Meant : Settings → Server → Request → Answer → Type 0
-Meant s v r Unheard = Unit
-Meant s v r (Granted g) = GrantedBy s v r g
-Meant s v r (Refused f) = Unit
+Meant s v r (Ok None) = Unit
+Meant s v r (Ok (Some g)) = GrantedBy s v r g
+Meant s v r (Err f) = Unit
 
 module _ (s : Settings) (v : Server) (r : Request) where
   by_choice : v.up ≡ true → v.silent ≡ None → (o : Option ℕ) → choose s.addresses v.clock v.table r ≡ o → Meant s v r (answered r o)
@@ -34,7 +32,7 @@ module _ (s : Settings) (v : Server) (r : Request) where
   by_silence up (Some u) e = tt
 
   pub meant : Meant s v r (answer s v r)
-  meant = cond_both v.up _ Unheard (λ x. Meant s v r x) (λ up. by_silence up v.silent refl) (λ e. tt)
+  meant = cond_both v.up _ (Ok None) (λ x. Meant s v r x) (λ up. by_silence up v.silent refl) (λ e. tt)
 
 pub lending-parts : (up : Bool) (o : Option ℕ) → (up && not_silent o) ≡ true → (up ≡ true) × (o ≡ None)
 lending-parts up None e = ((and_parts up true e).0, refl)

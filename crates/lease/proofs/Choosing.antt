@@ -6,7 +6,7 @@ use Rattle.lease.specs.declared.lease.Lease.{Lease}
 use Rattle.lease.specs.declared.message.Request.{Request}
 use Rattle.lease.specs.Table.{Table, live, owned, vacant, free}
 use Rattle.lease.specs.Choosing.{lowest, or_else, choose, OwnsNothing, Chosen, Choosing}
-use Rattle.lease.proofs.Options.{none-some, some_same}
+use Rattle.std.proofs.lemmas.Option.{none-some, same_Some}
 
 -- what a client owns is free for it; what is free for it is its own or nobody's
 owned-free : (now c : ℕ) (o : Option Lease) → owned now c o ≡ true → free now c o ≡ true
@@ -46,8 +46,8 @@ lowest-is test a (suc k) =
     cond_both (test a) (Some a) (lowest test (a + 1) k) (λ o. Lowest test a (suc k) o)
     (λ e. record {
       below = λ q f. let z : a ≡ q = cc in omega arith;
-      passes = λ q f. rw (some_same a q f) at e;
-      first = λ q f j l m. absurd (let z : a ≡ q = some_same a q f in omega arith);
+      passes = λ q f. rw (same_Some a q f) at e;
+      first = λ q f j l m. absurd (let z : a ≡ q = same_Some a q f in omega arith);
       any = λ j l m f. (a, refl);
     })
     (λ e. let ih : Lowest test (a + 1) k (lowest test (a + 1) k) = lowest-is test (a + 1) k in record {
@@ -71,9 +71,9 @@ module _ (pool now : ℕ) (t : Table) (r : Request) where
   preferred-is =
       cond_both (ltb r.preferred pool && free now c (t r.preferred)) (Some r.preferred) None (λ o. Preferred o)
       (λ e. record {
-        is = λ q f. subst (λ (z : ℕ). (z < pool) × (free now c (t z) ≡ true)) (some_same _ q f) (ltb-true _ _ (and_parts _ _ e).0, (and_parts _ _ e).1);
+        is = λ q f. subst (λ (z : ℕ). (z < pool) × (free now c (t z) ≡ true)) (same_Some _ q f) (ltb-true _ _ (and_parts _ _ e).0, (and_parts _ _ e).1);
         had = λ l f. refl;
-        same = λ q f. sym (some_same _ q f);
+        same = λ q f. sym (same_Some _ q f);
       })
       (λ e. record {
         is = λ q f. absurd (none-some q f);

@@ -9,7 +9,7 @@ use Rattle.lease.specs.Settings.{Settings}
 use Rattle.lease.specs.Holding.{Use, Wait, Holding, taken, taking_for, settled}
 use Rattle.lease.specs.World.{Message, Requests, Grants, Server, Client, World, knowing_nothing, elem}
 use Rattle.lease.specs.Run.{with_holding, asked, held_by, hearing, with_client, requested, asks, client_hears}
-use Rattle.lease.proofs.Options.{none-some, some_same}
+use Rattle.std.proofs.lemmas.Option.{none-some, same_Some}
 use Rattle.lease.proofs.Claims.{In, View, view, Using, Waiting, Holds, Moves, using_moves, waiting_moves, holds_same}
 use Rattle.lease.proofs.Sound.{Moments, Sound, Kept, claim_stays, same, client-does}
 
@@ -58,7 +58,7 @@ module _ (s : Settings) (S S' : Moments) (w : World) (k : Sound s S w) where
       (record {
         uses = λ u f. using_moves s (S c) (S' c) (view w k.book) after c (w.clients c) me moves u ((k.holds c).uses u f).now ((k.holds c).uses u f);
         waits = λ q f.
-            let g : record { nonce = n; asked = (w.clients c).clock } ≡ q = some_same _ _ f in
+            let g : record { nonce = n; asked = (w.clients c).clock } ≡ q = same_Some _ _ f in
             subst (λ (z : Wait). Waiting s (S' c) after c me z) g
             (record {
               up = (and_parts _ _ able).0;
@@ -112,7 +112,7 @@ module _ (s : Settings) (S S' : Moments) (w : World) (k : Sound s S w) where
         let h : Holding = taken s.term g.address q.asked in
         let wait : Waiting s (S' c) (viewed w.messages w.drawn) c (has h) q = waiting_moves s (S c) (S' c) (view w k.book) _ c (w.clients c) _ (moves h) q ((k.holds c).waits q e) in
         does (has h) (record {
-          uses = λ u j. subst (λ (z : Use). Using s (S' c) (viewed w.messages w.drawn) c (has h) z) (some_same _ _ j)
+          uses = λ u j. subst (λ (z : Use). Using s (S' c) (viewed w.messages w.drawn) c (has h) z) (same_Some _ _ j)
               (record {
                 up = wait.up;
                 now = leb-true _ _ soon;

@@ -2,15 +2,13 @@
 -- Assumes nothing.
 use Rattle.std.proofs.Common.{◌≡◌, ℕ, ◌+◌, ◌-◌, ◌≤◌, Bool, true, false, not, ◌&&◌, eqb, List, [], ◌∷◌, ◌++◌, Some, None, Ok, Err, Option, Result, sym, refl, ap, ◌∙◌, subst, arith}
 use Rattle.std.proofs.lemmas.Bool.{cond_both, cond-true, cond-false, eqb-true, eqb-false, ne_eqb, and_parts, not-true}
-use Rattle.lease.specs.declared.answer.Answer.{Answer}
-use Rattle.lease.specs.declared.answer.Answer.TheVariants.{Unheard, Granted, Refused}
 use Rattle.lease.specs.declared.fault.Fault.{Fault}
 use Rattle.lease.specs.declared.message.Grant.{Grant}
 use Rattle.lease.specs.Settings.{Settings}
 use Rattle.lease.specs.Table.{at}
 use Rattle.lease.specs.Holding.{Holding, taking, settled}
 use Rattle.lease.specs.World.{Message, Requests, Grants, Server, Client, World, elem, sent}
-use Rattle.lease.specs.Run.{Event, Pass, Asks, ServerHears, ServerHearsAndCrashes, ClientHears, ClientStarts, ClientCrashes, ServerCrashes, Forgets, ServerRestarts, forgets, requested, answer, serves, server_hears, held_by, hearing, client_hears, step, world}
+use Rattle.lease.specs.Run.{Answer, Event, Pass, Asks, ServerHears, ServerHearsAndCrashes, ClientHears, ClientStarts, ClientCrashes, ServerCrashes, Forgets, ServerRestarts, forgets, requested, answer, serves, server_hears, held_by, hearing, client_hears, step, world}
 use Rattle.lease.specs.Premise.{spares, spares_all, Close, Onward, Forward, AllAlong}
 use Rattle.lease.specs.Drift.{Gains, GainsAtMost, LittleDrift}
 use Rattle.lease.proofs.History.{passes-clock, client-clock, restarts-clock}
@@ -41,9 +39,9 @@ at-alike w c d x q =
     (λ e. alike (w.clients c))
 
 serves-clock : (s : Settings) (v : Server) (x : Answer) → (serves s x v).clock ≡ v.clock
-serves-clock s v Unheard = refl
-serves-clock s v (Granted g) = refl
-serves-clock s v (Refused f) = refl
+serves-clock s v (Ok None) = refl
+serves-clock s v (Ok (Some g)) = refl
+serves-clock s v (Err f) = refl
 
 forgets-clock : (gone : ℕ → Bool) (v : Server) → (forgets gone v).clock ≡ v.clock
 forgets-clock gone v = cond_both v.up _ v (λ (z : Server). z.clock ≡ v.clock) (λ e. refl) (λ e. refl)

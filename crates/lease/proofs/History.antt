@@ -6,7 +6,7 @@ use Rattle.lease.specs.Settings.{Settings, outlasts}
 use Rattle.lease.specs.World.{Message, Server, Client, World, sent}
 use Rattle.lease.specs.Run.{Event, Pass, Asks, ServerHears, ServerHearsAndCrashes, ClientHears, ClientStarts, ClientCrashes, ServerCrashes, Forgets, ServerRestarts, server_passes, client_passes, restarts, step, world}
 use Rattle.lease.specs.Premise.{spares, spares_all, Stretch, Near, Close, AllAlong, Agree, CloselyIsEnough}
-use Rattle.lease.proofs.Options.{none-some, some_same}
+use Rattle.std.proofs.lemmas.Option.{none-some, same_Some}
 use Rattle.lease.proofs.Claims.{In}
 use Rattle.lease.proofs.Sound.{Moments, Sound, Agrees}
 use Rattle.lease.proofs.ServerSteps.{server-crashes, server-forgets, server-restarts, server-hears, server-hears_and_crashes}
@@ -56,7 +56,7 @@ agrees s (e ∷ es) ag c = near_agrees s (e ∷ es) c ag.0
 pub sent_in : (i : ℕ) (ms : List Message) (m : Message) → sent i ms ≡ Some m → In m ms
 unfolding sent
 sent_in i [] m e = none-some m e
-sent_in zero (x ∷ ms) m e = inl (sym (some_same x m e))
+sent_in zero (x ∷ ms) m e = inl (sym (same_Some x m e))
 sent_in (suc i) (x ∷ ms) m e = inr (sent_in i ms m e)
 
 pub passes-clock : (k : ℕ) (v : Server) → ((server_passes k v).clock ≡ v.clock + k) × ((server_passes k v).up ≡ v.up)

@@ -1,18 +1,16 @@
 -- In a run in which the server's clock never goes back, no client ever has two live leases.
 -- Assumes nothing.
-use Rattle.std.proofs.Common.{ℕ, ◌+◌, ◌≤◌, Bool, true, false, not, ◌&&◌, ◌||◌, List, [], ◌∷◌, Some, None, Option, sym, refl, arith}
+use Rattle.std.proofs.Common.{ℕ, ◌+◌, ◌≤◌, Bool, true, false, not, ◌&&◌, ◌||◌, List, [], ◌∷◌, Some, None, Ok, Err, Option, sym, refl, arith}
 use Rattle.std.proofs.lemmas.Bool.{cond_both}
-use Rattle.lease.specs.declared.answer.Answer.{Answer}
-use Rattle.lease.specs.declared.answer.Answer.TheVariants.{Unheard, Granted, Refused}
 use Rattle.lease.specs.declared.message.Request.{Request}
 use Rattle.lease.specs.Settings.{Settings, life}
 use Rattle.lease.specs.Table.{empty, OneEach, Pooled}
 use Rattle.lease.specs.Choosing.{Chosen}
 use Rattle.lease.specs.World.{Message, Requests, Grants, Server, World, is_silent, elem, sent}
-use Rattle.lease.specs.Run.{Event, Pass, Asks, ServerHears, ServerHearsAndCrashes, ClientHears, ClientStarts, ClientCrashes, ServerCrashes, Forgets, ServerRestarts, over, requested, answer, serves, server_hears, client_hears, step, world}
+use Rattle.lease.specs.Run.{Answer, Event, Pass, Asks, ServerHears, ServerHearsAndCrashes, ClientHears, ClientStarts, ClientCrashes, ServerCrashes, Forgets, ServerRestarts, over, requested, answer, serves, server_hears, client_hears, step, world}
 use Rattle.lease.specs.Premise.{Onward, Forward}
 use Rattle.lease.specs.Promise.{OneLeaseEach}
-use Rattle.lease.proofs.Options.{none-some}
+use Rattle.std.proofs.lemmas.Option.{none-some}
 use Rattle.lease.proofs.Choosing.{laws}
 use Rattle.lease.proofs.Tidy.{one-empty, one_later, one_written, one-forgotten, forgotten-from, pooled-written}
 use Rattle.lease.proofs.Answers.{Meant, meant}
@@ -28,14 +26,14 @@ pub tidy_later : (s : Settings) (v : Server) (clock : ℕ) (up : Bool) (o : Opti
 tidy_later s v clock up o n k = record { pooled = k.pooled; one = one_later v.clock clock v.table n k.one }
 
 pub serves_tidy : (s : Settings) (v : Server) (r : Request) (x : Answer) → Meant s v r x → Tidy s v → Tidy s (serves s x v)
-serves_tidy s v r Unheard by k = k
-serves_tidy s v r (Granted g) by k =
+serves_tidy s v r (Ok None) by k = k
+serves_tidy s v r (Ok (Some g)) by k =
     let ch : Chosen s.addresses v.clock v.table r (Some g.address) = laws s.addresses v.clock v.table r (Some g.address) (sym by.chosen) in
     record {
       pooled = pooled-written s.addresses v.table _ (ch.below g.address refl) k.pooled;
       one = rw by.client (one_written s.addresses v.clock v.table r g.address (life s) (Some g.address) k.pooled k.one ch refl);
     }
-serves_tidy s v r (Refused f) by k = k
+serves_tidy s v r (Err f) by k = k
 
 pub hears_tidy : (s : Settings) (w : World) (o : Option Message) → Tidy s w.server → Tidy s (server_hears s o w).server
 hears_tidy s w None k = k

@@ -7,7 +7,7 @@ use Rattle.lease.specs.Table.{Table, empty}
 use Rattle.lease.specs.Holding.{Use, still_used, later}
 use Rattle.lease.specs.World.{Server, Client, World}
 use Rattle.lease.specs.Run.{over, client_passes, passes}
-use Rattle.lease.proofs.Options.{none-some, some_same}
+use Rattle.std.proofs.lemmas.Option.{none-some, same_Some}
 use Rattle.lease.proofs.Claims.{View, view, Claim, Holds, holds_moves, claim_on}
 use Rattle.lease.proofs.Sound.{Moments, Sound, Mine, Kept}
 
@@ -19,7 +19,7 @@ still_used_lem : (now : ℕ) (o : Option Use) (u : Use) → still_used now o ≡
 still_used_lem now None u = λ e. absurd (none-some u e)
 still_used_lem now (Some x) u =
     cond_both (leb now x.until) (Some x) None (λ o. o ≡ Some u → (Some x ≡ Some u) × (now ≤ u.until))
-    (λ e f. (f, rw (some_same x u f) at (leb-true _ _ e))) (λ e f. absurd (none-some u f))
+    (λ e f. (f, rw (same_Some x u f) at (leb-true _ _ e))) (λ e f. absurd (none-some u f))
 
 module _ (s : Settings) (S S' : Moments) (w : World) (k : Sound s S w) where
   abbrev v : Server

@@ -1,9 +1,7 @@
 -- The promises, from what holds at every moment.
 -- Assumes nothing.
-use Rattle.std.proofs.Common.{◌≡◌, ℕ, ◌+◌, ◌≤◌, true, false, not, ◌&&◌, eqb, leb, List, Some, None, Option, Result, sym, refl, ap, ◌∙◌, arith}
+use Rattle.std.proofs.Common.{◌≡◌, ℕ, ◌+◌, ◌≤◌, true, false, not, ◌&&◌, eqb, leb, List, Some, None, Ok, Option, Result, sym, refl, ap, ◌∙◌, arith}
 use Rattle.std.proofs.lemmas.Bool.{cond-true, eq-eqb, le-leb, and_from, not_from_false}
-use Rattle.lease.specs.declared.answer.Answer.{Answer}
-use Rattle.lease.specs.declared.answer.Answer.TheVariants.{Unheard, Granted}
 use Rattle.lease.specs.declared.fault.Fault.{Fault}
 use Rattle.lease.specs.declared.lease.Lease.{Lease}
 use Rattle.lease.specs.declared.message.Request.{Request}
@@ -13,10 +11,10 @@ use Rattle.lease.specs.Table.{owned}
 use Rattle.lease.specs.Choosing.{choose, Chosen}
 use Rattle.lease.specs.Holding.{Wait, Holding, taken, taking_for, settled}
 use Rattle.lease.specs.World.{Server, Client, World, lending, elem, sent}
-use Rattle.lease.specs.Run.{Event, Asks, ServerHears, ClientHears, answered, answer_up, answer, held_by, hearing, requested, replied, step, world}
+use Rattle.lease.specs.Run.{Answer, Event, Asks, ServerHears, ClientHears, answered, answer_up, answer, held_by, hearing, requested, replied, step, world}
 use Rattle.lease.specs.Premise.{Agree}
 use Rattle.lease.specs.Promise.{Uses, NeverTwo, CanHave, Keeps, InTable}
-use Rattle.lease.proofs.Options.{some_same}
+use Rattle.std.proofs.lemmas.Option.{same_Some}
 use Rattle.lease.proofs.Choosing.{choosing}
 use Rattle.lease.proofs.Tidy.{owned-from}
 use Rattle.lease.proofs.Claims.{view, Line, Using}
@@ -32,7 +30,7 @@ pub never_two : NeverTwo
 never_two s es ag a c d u x =
     let p : Line (sound s es ag).book a c _ = (uses_by s es ag c a u).claim.line in
     let q : Line (sound s es ag).book a d _ = (uses_by s es ag d a x).claim.line in
-    sym p.client ∙ ap (λ (l : Lease). l.client) (some_same _ _ (sym p.there ∙ q.there)) ∙ q.client
+    sym p.client ∙ ap (λ (l : Lease). l.client) (same_Some _ _ (sym p.there ∙ q.there)) ∙ q.client
 
 pub in_table : InTable
 in_table s es ag c a u quiet =
@@ -50,10 +48,10 @@ in_table s es ag c a u quiet =
 
 -- what the server answers, where it chooses an address
 pub answers : (s : Settings) (v : Server) (r : Request) (q : ℕ) → lending v ≡ true → choose s.addresses v.clock v.table r ≡ Some q →
-    answer s v r ≡ Granted (record { client = r.client; nonce = r.nonce; address = q })
+    answer s v r ≡ Ok (Some (record { client = r.client; nonce = r.nonce; address = q }))
 answers s v r q lends e =
     let p : (v.up ≡ true) × (v.silent ≡ None) = lending-parts _ _ lends in
-    cond-true v.up _ Unheard p.0 ∙ ap (λ (o : Option ℕ). answer_up s v r o) p.1 ∙ ap (λ (o : Option ℕ). answered r o) e
+    cond-true v.up _ (Ok None) p.0 ∙ ap (λ (o : Option ℕ). answer_up s v r o) p.1 ∙ ap (λ (o : Option ℕ). answered r o) e
 
 -- a client takes the grant for the request that waits
 pub takes : (s : Settings) (c : ℕ) (g : Grant) (x : Client) (t : ℕ) → x.up ≡ true → g.client ≡ c → x.holding.waits ≡ Some (record { nonce = g.nonce; asked = t }) → x.clock ≤ t + s.term →

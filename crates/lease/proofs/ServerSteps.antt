@@ -1,9 +1,7 @@
 -- What holds at every moment holds on when the server hears, crashes or restarts.
 -- Assumes nothing.
-use Rattle.std.proofs.Common.{◌≡◌, ℕ, ◌+◌, ◌<◌, ◌≤◌, Bool, true, false, cond, ◌&&◌, ◌||◌, eqb, ◌∷◌, Some, None, Option, sym, refl, ap, ◌∙◌, inl, inr, arith}
+use Rattle.std.proofs.Common.{◌≡◌, ℕ, ◌+◌, ◌<◌, ◌≤◌, Bool, true, false, cond, ◌&&◌, ◌||◌, eqb, ◌∷◌, Some, None, Ok, Err, Option, sym, refl, ap, ◌∙◌, inl, inr, arith}
 use Rattle.std.proofs.lemmas.Bool.{cond_both, cond-true, cond-false, cases_Bool, cases_lt, eqb-true, eq-eqb, or_parts}
-use Rattle.lease.specs.declared.answer.Answer.{Answer}
-use Rattle.lease.specs.declared.answer.Answer.TheVariants.{Unheard, Granted, Refused}
 use Rattle.lease.specs.declared.lease.Lease.{Lease}
 use Rattle.lease.specs.declared.message.Request.{Request}
 use Rattle.lease.specs.declared.message.Grant.{Grant}
@@ -11,8 +9,8 @@ use Rattle.lease.specs.Settings.{Settings, life, silence}
 use Rattle.lease.specs.Table.{Table, empty, vacant, leased, written, forgotten}
 use Rattle.lease.specs.Choosing.{Chosen}
 use Rattle.lease.specs.World.{Message, Requests, Grants, Server, World, is_silent, elem}
-use Rattle.lease.specs.Run.{answer, serves, lends, crashes, with_server, forgets, restarts, replied, server_hears}
-use Rattle.lease.proofs.Options.{none-some, some_same}
+use Rattle.lease.specs.Run.{Answer, answer, serves, lends, crashes, with_server, forgets, restarts, replied, server_hears}
+use Rattle.std.proofs.lemmas.Option.{none-some, same_Some}
 use Rattle.lease.proofs.Choosing.{laws}
 use Rattle.lease.proofs.Tidy.{free-live, forgotten_stays}
 use Rattle.lease.proofs.Claims.{In, view, Line, claim_on}
@@ -52,7 +50,7 @@ module _ (s : Settings) (S S' : Moments) (w : World) (k : Sound s S w) where
   server-restarts clock lost ks now =
       cond_both (lost || is_silent v.silent) _ _ (λ v'. Sound s S' (with_server v' w))
       (λ e. restarted (record { clock = clock; up = true; silent = Some (clock + silence s); table = empty }) ks now
-      (λ f. absurd (none-some _ (sym f))) (λ u f. let z : clock + silence s ≡ u = some_same _ _ f in omega arith))
+      (λ f. absurd (none-some _ (sym f))) (λ u f. let z : clock + silence s ≡ u = same_Some _ _ f in omega arith))
       (λ e. restarted (record { clock = clock; up = true; silent = None; table = v.table }) ks now
       (λ f. k.kept (not_silent_lem _ (or_parts _ _ e).1)) (λ u f. absurd (none-some u f)))
 
@@ -77,7 +75,7 @@ module _ (s : Settings) (S S' : Moments) (w : World) (k : Sound s S w) where
   -- the server hears a request
   module _ (ag : (c : ℕ) → Agrees s (S c) w c) (ks : (c : ℕ) → Kept S S' c) (now : (c : ℕ) → v.up ≡ true → (w.clients c).up ≡ true → S c (w.clients c).clock v.clock) where
     -- a grant: no other client's claim is on the address, since its lease would be live
-    grant-sound : (r : Request) (g : Grant) → elem r.nonce w.drawn ≡ true → GrantedBy s v r g → Sound s S' (replied s (Granted g) w)
+    grant-sound : (r : Request) (g : Grant) → elem r.nonce w.drawn ≡ true → GrantedBy s v r g → Sound s S' (replied s (Ok (Some g)) w)
     grant-sound r g drawn by =
         server-does s S S' w k (lends s g v) book' (Grants g ∷ w.messages) (λ e a. ap (cond (eqb a g.address) (Some new)) (k.kept e a))
         (λ m. elim [ inl e ↦ rw (e, by.nonce) drawn | inr i ↦ k.nonces m i ])
@@ -125,9 +123,9 @@ module _ (s : Settings) (S S' : Moments) (w : World) (k : Sound s S w) where
             ]
 
     answer-sound : (r : Request) → elem r.nonce w.drawn ≡ true → (x : Answer) → Meant s v r x → Sound s S' (replied s x w)
-    answer-sound r drawn Unheard by = same s S S' w k ks
-    answer-sound r drawn (Granted g) by = grant-sound r g drawn by
-    answer-sound r drawn (Refused f) by = same s S S' w k ks
+    answer-sound r drawn (Ok None) by = same s S S' w k ks
+    answer-sound r drawn (Ok (Some g)) by = grant-sound r g drawn by
+    answer-sound r drawn (Err f) by = same s S S' w k ks
 
     pub server-hears : (o : Option Message) → ((m : Message) → o ≡ Some m → In m w.messages) → Sound s S' (server_hears s o w)
     server-hears None i = same s S S' w k ks
@@ -136,9 +134,9 @@ module _ (s : Settings) (S S' : Moments) (w : World) (k : Sound s S w) where
 
     -- the lease is written, and the server crashes before the grant is sent
     answer-lost : (r : Request) → elem r.nonce w.drawn ≡ true → (x : Answer) → Meant s v r x → Sound s S' (with_server (crashes (serves s x v)) w)
-    answer-lost r drawn Unheard by = server-crashes ks
-    answer-lost r drawn (Granted g) by = sound-loses s S' (replied s (Granted g) w) w.messages (λ m i. inr i) (grant-sound r g drawn by)
-    answer-lost r drawn (Refused f) by = server-crashes ks
+    answer-lost r drawn (Ok None) by = server-crashes ks
+    answer-lost r drawn (Ok (Some g)) by = sound-loses s S' (replied s (Ok (Some g)) w) w.messages (λ m i. inr i) (grant-sound r g drawn by)
+    answer-lost r drawn (Err f) by = server-crashes ks
 
     hears-lost : (o : Option Message) → ((m : Message) → o ≡ Some m → In m w.messages) → Sound s S' (with_server (crashes (server_hears s o w).server) w)
     hears-lost None i = server-crashes ks

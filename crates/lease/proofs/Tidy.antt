@@ -6,7 +6,7 @@ use Rattle.lease.specs.declared.lease.Lease.{Lease}
 use Rattle.lease.specs.declared.message.Request.{Request}
 use Rattle.lease.specs.Table.{Table, empty, live, owned, vacant, free, leased, written, forgotten, OneEach, Pooled}
 use Rattle.lease.specs.Choosing.{Chosen, leasing, entered}
-use Rattle.lease.proofs.Options.{none-some, some_same}
+use Rattle.std.proofs.lemmas.Option.{none-some, same_Some}
 
 -- an own live lease, taken apart and put together
 pub record Owned (now c : ℕ) (o : Option Lease) : Type 0 where
@@ -81,7 +81,7 @@ module _ (pool now : ℕ) (t : Table) (r : Request) (q : ℕ) (life : ℕ) (o : 
       let mine : owned now r.client (t b) ≡ true = rw cd j in
       let l : Owned now r.client (t b) = owned-parts now r.client (t b) mine in
       let own : (x : ℕ) × (o ≡ Some x) × (owned now r.client (t x) ≡ true) = ch.own b (pooled b l.lease l.there) mine in
-      one r.client b own.0 mine own.2 ∙ some_same own.0 q (sym own.1 ∙ e)
+      one r.client b own.0 mine own.2 ∙ same_Some own.0 q (sym own.1 ∙ e)
 
   pub one_written : OneEach now (written new t)
   one_written d a b =

@@ -1,8 +1,6 @@
 -- Worked cases: a run, and what is seen after it. Term 100, skew 5.
 -- Assumes nothing.
 use Rattle.std.specs.Prelude.{◌≡◌, ℕ, List, [], ◌∷◌, Some, Ok, Err, Result}
-use Rattle.lease.specs.declared.answer.Answer.{Answer}
-use Rattle.lease.specs.declared.answer.Answer.TheVariants.{Granted, Refused}
 use Rattle.lease.specs.declared.fault.Fault.{Fault}
 use Rattle.lease.specs.declared.fault.Fault.TheVariants.{NotWaiting, TooLate, NoneFree}
 use Rattle.lease.specs.declared.message.Request.{Request}
@@ -10,7 +8,7 @@ use Rattle.lease.specs.declared.message.Grant.{Grant}
 use Rattle.lease.specs.Settings.{Settings}
 use Rattle.lease.specs.Holding.{Holding, taking, taken}
 use Rattle.lease.specs.World.{World}
-use Rattle.lease.specs.Run.{Event, Pass, Asks, ServerHears, ClientHears, ClientStarts, ClientCrashes, answer, world}
+use Rattle.lease.specs.Run.{Event, Answer, Pass, Asks, ServerHears, ClientHears, ClientStarts, ClientCrashes, answer, world}
 
 -- so many ticks pass for all
 abbrev pub ticks : ℕ → Event
@@ -67,8 +65,8 @@ cases =
     -- the request comes again at the server's 60: the same address for the same client, until 165
     ∷ (record { run = ServerHears 1 ∷ (ticks 48 ∷ heard); seen = Lent 1 165 }
     -- another client asks at the server's 117: not free; at 118: free
-    ∷ (record { run = ticks 105 ∷ heard; seen = Says another (Refused NoneFree) }
-    ∷ (record { run = ticks 106 ∷ heard; seen = Says another (Granted (record { client = 2; nonce = 70; address = 0 })) }
+    ∷ (record { run = ticks 105 ∷ heard; seen = Says another (Err NoneFree) }
+    ∷ (record { run = ticks 106 ∷ heard; seen = Says another (Ok (Some (record { client = 2; nonce = 70; address = 0 }))) }
     -- the client crashes at 50 and asks at 51: it is lent the same
     ∷ (record { run = ServerHears 0 ∷ (Asks 1 92 1 ∷ (ticks 1 ∷ (ClientStarts 1 50 ∷ (ClientCrashes 1 ∷ (ticks 38 ∷ (ClientHears 1 0 ∷ heard)))))); seen = Lent 1 156 }
     ∷ (record { run = ClientHears 1 0 ∷ (ServerHears 0 ∷ (Asks 1 92 1 ∷ (ticks 1 ∷ (ClientStarts 1 50 ∷ (ClientCrashes 1 ∷ (ticks 38 ∷ (ClientHears 1 0 ∷ heard))))))); seen = Has (taken 100 0 51) }

@@ -1,7 +1,6 @@
 -- What an implementation of server and of client must be: its states, what it does at each event, what it answers and sends, and that nothing else of it changes.
 -- Assumes nothing.
 use Rattle.std.specs.Prelude.{◌≡◌, ℕ, ◌+◌, ◌^◌, ◌≤◌, Bool, true, false, cond, Some, None, Ok, Err, Option, Result}
-use Rattle.lease.specs.declared.answer.Answer.{Answer}
 use Rattle.lease.specs.declared.fault.Fault.{Fault}
 use Rattle.lease.specs.declared.fault.Fault.TheVariants.{CountExhausted}
 use Rattle.lease.specs.declared.message.Request.{Request}
@@ -11,7 +10,7 @@ use Rattle.lease.specs.declared.holder.Holder.{Holder}
 use Rattle.lease.specs.Settings.{Settings}
 use Rattle.lease.specs.Holding.{settled}
 use Rattle.lease.specs.World.{Server, Client, start, knowing_nothing}
-use Rattle.lease.specs.Run.{server_passes, answer, serves, crashes, restarts, client_passes, asked, hearing}
+use Rattle.lease.specs.Run.{Answer, server_passes, answer, serves, crashes, restarts, client_passes, asked, hearing}
 use Rattle.lease.specs.Stands.{Stands, StandsFor, KeeperMade, KeeperPassed, KeeperAnswered, KeeperCrashed, KeeperRestarted, HolderStarted, HolderCrashed, HolderPassed, HolderAsked, HolderHeard}
 
 -- a server: each relation is what a step ensures, of the state before, what came of it, and the state after

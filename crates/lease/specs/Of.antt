@@ -1,10 +1,10 @@
 -- What each value of the code stands for in the model.
 -- Assumes nothing.
-use Rattle.std.specs.Prelude.{Some, None, Ok, Err, Result}
+use Rattle.std.specs.Prelude.{Ok, Err, Result}
+use Rattle.std.specs.Option.{option_map}
 use Rattle.lease.specs.declared.holding.Use.{Use}
 use Rattle.lease.specs.declared.holding.Wait.{Wait}
 use Rattle.lease.specs.declared.holding.Holding.{Holding}
-use Rattle.lease.specs.declared.holding.Holding.TheVariants.{Nothing, Waiting, Using, UsingAndWaiting}
 use Rattle.lease.specs.declared.settings.Settings.{Settings}
 use Rattle.lease.specs.Settings as model
 use Rattle.lease.specs.Holding as held
@@ -19,10 +19,7 @@ abbrev pub wait_of : Wait → held.Wait
 wait_of w = record { nonce = w.nonce; asked = w.asked.ticks }
 
 abbrev pub holding_of : Holding → held.Holding
-holding_of Nothing = record { uses = None; waits = None }
-holding_of (Waiting w) = record { uses = None; waits = Some (wait_of w) }
-holding_of (Using u) = record { uses = Some (use_of u); waits = None }
-holding_of (UsingAndWaiting u w) = record { uses = Some (use_of u); waits = Some (wait_of w) }
+holding_of h = record { uses = option_map use_of h.using; waits = option_map wait_of h.waiting }
 
 -- what comes of a step, or the fault with which it is refused
 abbrev pub map_ok : {A B E : Type 0} → (A → B) → Result A E → Result B E

@@ -5,8 +5,6 @@ use Rattle.lease.specs.declared.fault.Fault.{Fault}
 use Rattle.lease.specs.declared.fault.Fault.TheVariants.{NoneFree, TableLost}
 use Rattle.lease.specs.declared.message.Request.{Request}
 use Rattle.lease.specs.declared.message.Grant.{Grant}
-use Rattle.lease.specs.declared.answer.Answer.{Answer}
-use Rattle.lease.specs.declared.answer.Answer.TheVariants.{Unheard, Granted, Refused}
 use Rattle.lease.specs.Settings.{Settings, life, silence}
 use Rattle.lease.specs.Table.{empty, at, leased, written, forgotten}
 use Rattle.lease.specs.Choosing.{choose}
@@ -42,17 +40,21 @@ server_passes k v =
     cond (over (v.clock + k) v.up v.silent) (record { clock = v.clock + k; up = v.up; silent = None; table = empty })
     (record { clock = v.clock + k; up = v.up; silent = v.silent; table = v.table })
 
+-- what the server makes of a request: nothing while it is down, a grant, or the fault that refuses it
+abbrev pub Answer : Type 0
+Answer = Result (Option Grant) Fault
+
 abbrev pub answered : Request → Option ℕ → Answer
-answered r None = Refused NoneFree
-answered r (Some a) = Granted (record { client = r.client; nonce = r.nonce; address = a })
+answered r None = Err NoneFree
+answered r (Some a) = Ok (Some (record { client = r.client; nonce = r.nonce; address = a }))
 
 -- in the silence nobody knows what is free
 abbrev pub answer_up : Settings → Server → Request → Option ℕ → Answer
 answer_up s v r None = answered r (choose s.addresses v.clock v.table r)
-answer_up s v r (Some u) = Refused TableLost
+answer_up s v r (Some u) = Err TableLost
 
 abbrev pub answer : Settings → Server → Request → Answer
-answer s v r = cond v.up (answer_up s v r v.silent) Unheard
+answer s v r = cond v.up (answer_up s v r v.silent) (Ok None)
 
 -- the lease that a grant stands for is written
 abbrev pub lends : Settings → Grant → Server → Server
@@ -60,9 +62,9 @@ lends s g v =
     record { clock = v.clock; up = v.up; silent = v.silent; table = written (leased v.clock (life s) g.client g.address) v.table }
 
 abbrev pub serves : Settings → Answer → Server → Server
-serves s Unheard v = v
-serves s (Granted g) v = lends s g v
-serves s (Refused f) v = v
+serves s (Ok None) v = v
+serves s (Ok (Some g)) v = lends s g v
+serves s (Err f) v = v
 
 abbrev pub crashes : Server → Server
 crashes v = record { clock = v.clock; up = false; silent = v.silent; table = v.table }
@@ -118,9 +120,9 @@ asks c n p w = cond ((w.clients c).up && not (elem n w.drawn)) (requested c n p 
 
 -- what the server answers is sent
 abbrev pub replies : Answer → List Message → List Message
-replies Unheard ms = ms
-replies (Granted g) ms = Grants g ∷ ms
-replies (Refused f) ms = ms
+replies (Ok None) ms = ms
+replies (Ok (Some g)) ms = Grants g ∷ ms
+replies (Err f) ms = ms
 
 abbrev pub replied : Settings → Answer → World → World
 replied s x w = record { server = serves s x w.server; clients = w.clients; messages = replies x w.messages; drawn = w.drawn }

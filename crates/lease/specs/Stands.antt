@@ -1,9 +1,8 @@
 -- For which server and which client of the model a value of the code stands, and the contract of each step by it.
 -- Assumes nothing.
-use Rattle.std.specs.Prelude.{◌≡◌, ℕ, ◌+◌, ◌^◌, ◌≤◌, Bool, true, false, cond, List, Some, None, Ok, Err, vec_items, Option, Result, nat_lt}
-use Rattle.lease.specs.declared.answer.Answer.{Answer}
-use Rattle.lease.specs.declared.answer.Found.{Found}
-use Rattle.lease.specs.declared.answer.Found.TheVariants.{Table, Nothing}
+use Rattle.std.specs.Prelude.{◌≡◌, ℕ, ◌+◌, ◌^◌, ◌≤◌, Bool, true, false, cond, List, Some, None, Ok, Err, Option, Result, nat_lt}
+use Rattle.lease.specs.declared.found.Found.{Found}
+use Rattle.lease.specs.declared.found.Found.TheVariants.{Table, Nothing}
 use Rattle.lease.specs.declared.fault.Fault.{Fault}
 use Rattle.lease.specs.declared.fault.Fault.TheVariants.{CountExhausted}
 use Rattle.lease.specs.declared.lease.Lease.{Lease}
@@ -15,11 +14,11 @@ use Rattle.lease.specs.Settings.{Settings}
 use Rattle.lease.specs.Table as lent
 use Rattle.lease.specs.Table.{table_of}
 use Rattle.lease.specs.World.{Server, Client, start, knowing_nothing}
-use Rattle.lease.specs.Run.{server_passes, answer, serves, crashes, restarts, client_passes, asked, hearing}
+use Rattle.lease.specs.Run.{Answer, server_passes, answer, serves, crashes, restarts, client_passes, asked, hearing}
 use Rattle.lease.specs.Of.{settings_of, holding_of, map_ok}
 
 abbrev pub server_of : Keeper → Server
-server_of k = record { clock = k.clock.ticks; up = k.up; silent = k.silent; table = table_of (vec_items k.table.leases) }
+server_of k = record { clock = k.clock.ticks; up = k.up; silent = k.silent; table = table_of k.table }
 
 abbrev pub client_of : Holder → Client
 client_of h = record { clock = h.clock.ticks; up = h.up; holding = holding_of h.holding }

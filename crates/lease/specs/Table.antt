@@ -1,6 +1,6 @@
 -- The lease table: at each address nothing or a lease, which counts while it is live.
 -- Assumes nothing.
-use Rattle.std.specs.Prelude.{◌≡◌, ℕ, ◌+◌, ◌<◌, Bool, true, false, cond, not, ◌&&◌, ◌||◌, List, Some, None, Option, ◌==◌, nat_le, nat_lt, slice_index, slice_index_or}
+use Rattle.std.specs.Prelude.{◌≡◌, ℕ, ◌+◌, ◌<◌, Bool, true, false, cond, not, ◌&&◌, ◌||◌, List, Some, None, Option, ◌==◌, nat_le, nat_lt, slice_index_or}
 use Rattle.lease.specs.declared.lease.Lease.{Lease}
 
 abbrev pub Table : Type 0
@@ -68,12 +68,3 @@ Placed t = (a : ℕ) (l : Lease) → t a ≡ Some l → l.address ≡ a
 -- and there is none outside the pool
 abbrev pub Pooled : (pool : ℕ) → Table → Type 0
 Pooled pool t = (a : ℕ) (l : Lease) → t a ≡ Some l → a < pool
-
--- what the place of a lease is labelled with
-abbrev pub label_of : Option Lease → ℕ
-label_of None = 0
-label_of (Some l) = l.client
-
--- each lease's place is labelled with its client
-abbrev pub Labels : List (Option Lease) → List ℕ → Type 0
-Labels xs cs = (a : ℕ) (l : Lease) → table_of xs a ≡ Some l → slice_index cs a ≡ l.client

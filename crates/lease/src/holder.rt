@@ -8,9 +8,10 @@ use crate::holding::Holding;
 use crate::message::{Grant, Request};
 
 // What borrows an address: a clock, and what it has. Each step takes it and gives it back.
-#[derive(Clone, Copy)]
+#[derive(Clone, Copy, PartialEq, Eq, Debug)]
 pub struct Holder {
     pub(crate) clock: Clock,
+    // no Option of the rest, since down it keeps its clock
     pub(crate) up: bool,
     pub(crate) holding: Holding,
 }
@@ -23,7 +24,7 @@ impl Holder {
         Holder {
             clock: Clock::zero(),
             up: false,
-            holding: Holding::Nothing,
+            holding: Holding::nothing(),
         }
     }
 
@@ -34,8 +35,20 @@ impl Holder {
         Holder {
             clock,
             up: true,
-            holding: Holding::Nothing,
+            holding: Holding::nothing(),
         }
+    }
+
+    pub fn clock(self) -> Clock
+        ensures { result ≡ self.clock }
+    {
+        self.clock
+    }
+
+    pub fn is_up(self) -> bool
+        ensures { result ≡ self.up }
+    {
+        self.up
     }
 
     pub fn holding(self) -> Holding
@@ -48,9 +61,9 @@ impl Holder {
         ensures { HolderCrashed self result }
     {
         Holder {
-            clock: self.clock,
             up: false,
             holding: self.holding.crash(),
+            ..self
         }
     }
 
@@ -64,8 +77,8 @@ impl Holder {
         let clock = self.clock.after(ticks)?;
         Ok(Holder {
             clock,
-            up: true,
             holding: self.holding.tick(clock),
+            ..self
         })
     }
 
@@ -76,19 +89,16 @@ impl Holder {
         if !self.up {
             return (self, None);
         }
-        let holding = self.holding.ask(nonce, self.clock);
-        (
-            Holder {
-                clock: self.clock,
-                up: true,
-                holding,
-            },
-            Some(Request {
-                client: own,
-                nonce,
-                preferred,
-            }),
-        )
+        let asked = Holder {
+            holding: self.holding.ask(nonce, self.clock),
+            ..self
+        };
+        let request = Request {
+            client: own,
+            nonce,
+            preferred,
+        };
+        (asked, Some(request))
     }
 
     // A grant comes; while it is down it hears nothing.
@@ -99,10 +109,6 @@ impl Holder {
             return Ok(self);
         }
         let holding = self.holding.take(term, self.clock, own, grant)?;
-        Ok(Holder {
-            clock: self.clock,
-            up: true,
-            holding,
-        })
+        Ok(Holder { holding, ..self })
     }
 }

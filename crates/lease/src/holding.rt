@@ -1,5 +1,5 @@
 ghost use Rattle.std.specs.Prelude.{◌≡◌};
-ghost use Rattle.lease.specs.Holding.{nothing, later as later_held, asking, taking};
+ghost use Rattle.lease.specs.Holding.{nothing as holding_nothing, later as later_held, asking, taking};
 ghost use Rattle.std.specs.Option.{option_map};
 ghost use Rattle.lease.specs.Of.{use_of, wait_of, holding_of, map_ok};
 
@@ -8,51 +8,48 @@ use crate::fault::Fault;
 use crate::message::Grant;
 
 // An address in use, while the client's clock shows at most `until`.
-#[derive(Clone, Copy)]
+#[derive(Clone, Copy, PartialEq, Eq, Debug)]
 pub struct Use {
     pub address: u16,
     pub until: u64,
 }
 
 // A request that waits for its grant.
-#[derive(Clone, Copy)]
+#[derive(Clone, Copy, PartialEq, Eq, Debug)]
 pub struct Wait {
     pub nonce: u64,
     pub asked: Clock,
 }
 
-// What a client has.
-#[derive(Clone, Copy)]
-pub enum Holding {
-    Nothing,
-    Waiting(Wait),
-    Using(Use),
-    UsingAndWaiting(Use, Wait),
+// What a client has: an address in use, and a request that waits, each or neither.
+#[derive(Clone, Copy, PartialEq, Eq, Debug)]
+pub struct Holding {
+    pub(crate) using: Option<Use>,
+    pub(crate) waiting: Option<Wait>,
 }
 
 impl Holding {
+    pub fn nothing() -> Holding
+        ensures { holding_of result ≡ holding_nothing }
+    {
+        Holding {
+            using: None,
+            waiting: None,
+        }
+    }
+
     // The address in use.
     pub fn in_use(self) -> Option<Use>
         ensures { option_map use_of result ≡ (holding_of self).uses }
     {
-        match self {
-            Holding::Nothing => None,
-            Holding::Waiting(_) => None,
-            Holding::Using(using) => Some(using),
-            Holding::UsingAndWaiting(using, _) => Some(using),
-        }
+        self.using
     }
 
     // The request that waits.
     pub fn waiting(self) -> Option<Wait>
         ensures { option_map wait_of result ≡ (holding_of self).waits }
     {
-        match self {
-            Holding::Nothing => None,
-            Holding::Waiting(wait) => Some(wait),
-            Holding::Using(_) => None,
-            Holding::UsingAndWaiting(_, wait) => Some(wait),
-        }
+        self.waiting
     }
 
     // A request is sent, in the place of one that waits.
@@ -63,9 +60,9 @@ impl Holding {
             nonce,
             asked: clock,
         };
-        match self.in_use() {
-            None => Holding::Waiting(wait),
-            Some(using) => Holding::UsingAndWaiting(using, wait),
+        Holding {
+            waiting: Some(wait),
+            ..self
         }
     }
 
@@ -76,43 +73,36 @@ impl Holding {
         if grant.client != own {
             return Err(Fault::OtherClient);
         }
-        let Some(wait) = self.waiting() else {
-            return Err(Fault::NotWaiting);
-        };
-        if grant.nonce != wait.nonce {
-            return Err(Fault::NotWaiting);
-        }
+        let asked = self.waiting.filter(|wait| wait.nonce == grant.nonce);
+        let wait = asked.ok_or(Fault::NotWaiting)?;
         let until = wait.asked.ticks + u64::from(term);
         if clock.ticks > until {
             return Err(Fault::TooLate);
         }
-        let using = Use {
+        let using = Some(Use {
             address: grant.address,
             until,
-        };
-        Ok(Holding::Using(using))
+        });
+        Ok(Holding {
+            using,
+            ..Holding::nothing()
+        })
     }
 
     // The clock shows `clock` now: an address whose time is over is used no more.
     pub fn tick(self, clock: Clock) -> Holding
         ensures { holding_of result ≡ later_held clock.ticks (holding_of self) }
     {
-        let Some(using) = self.in_use() else {
-            return self;
-        };
-        if clock.ticks <= using.until {
-            return self;
-        }
-        match self.waiting() {
-            None => Holding::Nothing,
-            Some(wait) => Holding::Waiting(wait),
+        Holding {
+            using: self.using.filter(|using| clock.ticks <= using.until),
+            ..self
         }
     }
 
     // Nothing outlives a crash.
     pub fn crash(self) -> Holding
-        ensures { holding_of result ≡ nothing }
+        ensures { holding_of result ≡ holding_nothing }
     {
-        Holding::Nothing
+        Holding::nothing()
     }
 }

@@ -1,22 +1,21 @@
 #![tactic(auto)]
 
 // The lending core: settings, leases, the lease table and what a client holds.
-mod answer;
 mod clock;
 mod fault;
+mod found;
 mod holder;
 mod holding;
 mod keeper;
-mod keeper_steps;
 mod lease;
 mod message;
 mod settings;
 mod table;
 mod theorems;
 
-pub use answer::{Answer, Found};
 pub use clock::Clock;
 pub use fault::Fault;
+pub use found::Found;
 pub use holder::Holder;
 pub use holding::{Holding, Use, Wait};
 pub use keeper::Keeper;

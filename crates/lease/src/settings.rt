@@ -13,7 +13,7 @@ const MOST_TERM: u32 = 86_400;
 const MOST_SKEW: u16 = 600;
 
 // What all parties of a run share: the pool's size, how long an address is lent for, and how far two clocks may drift apart meanwhile.
-#[derive(Clone, Copy)]
+#[derive(Clone, Copy, PartialEq, Eq, Debug)]
 pub struct Settings {
     pub(crate) addresses: u16,
     pub(crate) term: u32,
@@ -34,19 +34,17 @@ pub fn most_addresses() -> u16
 }
 
 impl Settings {
+    ghost use Rattle.lease.specs.Of.{settings_of};
+
     // Settings within their ranges; refused otherwise.
     pub fn new(addresses: u16, term: u32, skew: u16) -> Result<Settings, Fault>
         ensures { MatchResult result (λ s. (s.addresses ≡ addresses) × (s.term ≡ term) × (s.skew ≡ skew) × (valid addresses term skew ≡ true)) (λ f. (f ≡ BadSettings) × (valid addresses term skew ≡ false)) }
     {
-        if addresses < 1
-            || addresses > MOST_ADDRESSES
-            || term < LEAST_TERM
-            || term > MOST_TERM
+        if !(1..=MOST_ADDRESSES).contains(&addresses)
+            || !(LEAST_TERM..=MOST_TERM).contains(&term)
             || skew > MOST_SKEW
+            || 2 * u32::from(skew) >= term
         {
-            return Err(Fault::BadSettings);
-        }
-        if 2 * u32::from(skew) >= term {
             return Err(Fault::BadSettings);
         }
         Ok(Settings {
@@ -76,14 +74,14 @@ impl Settings {
 
     // How long a lease lives by the server's clock: it outlasts a term by a client's.
     pub fn life(self) -> u32
-        ensures { result ≡ lives (record { addresses = self.addresses; term = self.term; skew = self.skew }) }
+        ensures { result ≡ lives (settings_of self) }
     {
         self.outlasting(self.term)
     }
 
     // How long a server that lost its table lends nothing.
     pub fn silence(self) -> u32
-        ensures { result ≡ silences (record { addresses = self.addresses; term = self.term; skew = self.skew }) }
+        ensures { result ≡ silences (settings_of self) }
     {
         self.outlasting(self.life())
     }
@@ -91,7 +89,7 @@ impl Settings {
     // What one clock may count while another counts `ticks`.
     fn outlasting(self, ticks: u32) -> u32
         requires { ticks ≤ 100000 }
-        ensures { result ≡ outlasts (record { addresses = self.addresses; term = self.term; skew = self.skew }) ticks }
+        ensures { result ≡ outlasts (settings_of self) ticks }
     {
         ticks + u32::from(self.skew)
     }

@@ -1,6 +1,6 @@
-ghost use Rattle.std.specs.Prelude.{◌≡◌, ℕ, ◌<◌, IfOk, if◌then◌else◌, Some, Ok, vec_len, ◌≢◌, nat_lt, slice_set};
+ghost use Rattle.std.specs.Prelude.{◌≡◌, ℕ, List, Option, length, ◌<◌, ◌^◌, IfOk, if◌then◌else◌, cond, ◌&&◌, Some, None, Ok, vec_len, ◌≢◌, nat_lt};
 ghost use Rattle.lease.specs.declared.lease.Lease.{Lease};
-ghost use Rattle.lease.specs.Table.{table_of, empty, owned, vacant, free, written, at_home, label_of, Labels, loaded, OneEach, Placed};
+ghost use Rattle.lease.specs.Table.{table_of, empty, owned, vacant, free, written, at_home, loaded, OneEach, Placed};
 ghost use Rattle.lease.specs.Choosing.{lowest, choose as chosen, Chosen, leasing, entered};
 
 use crate::clock::Clock;
@@ -9,136 +9,98 @@ use crate::lease::Lease;
 use crate::message::Request;
 use crate::settings::Settings;
 use std::alloc::{AllocError, Global};
+use std::marker::Model;
 
 // Which client each address is lent to: one place an address. An expired lease may stay, it counts for nothing.
 #[derive(Drop)]
 pub struct Table {
-    pub(crate) addresses: u16,
-    pub(crate) leases: Vec<Option<Lease>>,
-    // the client of the lease at each address: a scan for one reads four bytes an address
-    clients: Vec<u32>,
-    ghost sized: { vec_len leases ≡ addresses },
-    ghost placed: { Placed (table_of leases.items) },
-    ghost labelled: { vec_len clients ≡ addresses },
-    ghost labels: { Labels leases.items clients.items },
+    leases: Vec<Option<Lease>>,
 }
 
-// What the place of this lease is labelled with.
-fn label(lease: Option<Lease>) -> u32
-    ensures { result ≡ label_of lease }
-{
-    match lease {
-        Some(lease) => lease.client,
-        None => 0,
-    }
+// Seen as the list of its places, in which each lease stands at its own address.
+impl Model for Table {
+    ghost Value = { List (Option Lease) };
+
+    ghost view = { λ t. t.leases.items };
+
+    ghost invariant = { λ t. (vec_len t.leases < 2 ^ 16) × Placed (table_of t.leases.items) };
 }
 
 fn is_owned(place: Option<Lease>, clock: Clock, client: u32) -> bool
     ensures { result ≡ owned clock.ticks client place }
 {
-    match place {
-        Some(lease) => lease.client == client && clock.ticks <= lease.expires,
-        None => false,
-    }
+    place.is_some_and(|lease| lease.client == client && lease.is_live(clock))
 }
 
 fn is_vacant(place: Option<Lease>, clock: Clock) -> bool
     ensures { result ≡ vacant clock.ticks place }
 {
-    match place {
-        Some(lease) => lease.expires < clock.ticks,
-        None => true,
-    }
+    place.is_none_or(|lease| !lease.is_live(clock))
 }
 
 fn is_free(place: Option<Lease>, clock: Clock, client: u32) -> bool
     ensures { result ≡ free clock.ticks client place }
 {
-    match place {
-        Some(lease) => lease.client == client || lease.expires < clock.ticks,
-        None => true,
-    }
+    place.is_none_or(|lease| lease.client == client || !lease.is_live(clock))
 }
 
 // The lease that a list of places has at an address.
-fn at_home(places: &[Option<Lease>], address: u16) -> Option<Lease>
+fn at_home(places: &[Option<Lease>], address: usize) -> Option<Lease>
     ensures { result ≡ at_home address (table_of places.now address) }
 {
-    if address as usize >= places.len() {
-        return None;
-    }
-    let Some(lease) = places[address as usize] else {
-        return None;
-    };
-    if lease.address == address {
-        Some(lease)
-    } else {
-        None
-    }
+    places
+        .get(address)?
+        .filter(|lease| usize::from(lease.address) == address)
 }
 
 impl Table {
     // A table with no lease in it.
     pub fn new(heap: Global, settings: Settings) -> Result<Table, AllocError>
-        ensures { IfOk result (λ t. (table_of t.leases.items ≡ empty) × (t.addresses ≡ settings.addresses)) }
+        ensures { IfOk result (λ t. (table_of t ≡ empty) × (length t ≡ settings.addresses)) }
     {
-        let addresses = settings.addresses;
-        let leases = vec![in heap; None; addresses as usize]?;
-        let clients = vec![in heap; 0; addresses as usize]?;
-        Ok(Table {
-            addresses,
-            leases,
-            clients,
-        })
+        let leases = vec![in heap; None; usize::from(settings.addresses)]?;
+        Ok(Table { leases })
     }
 
     pub fn addresses(&self) -> u16
-        ensures { result ≡ self.now.addresses }
+        ensures { result ≡ length self.now }
     {
-        self.addresses
+        self.leases.len() as u16
     }
 
     // What stands at an address: nothing outside the pool.
     pub fn lease(&self, address: u16) -> Option<Lease>
-        ensures { result ≡ table_of self.now.leases.items address }
+        ensures { result ≡ table_of self.now address }
     {
-        if address >= self.addresses {
-            return None;
-        }
-        self.leases[address as usize]
-    }
-
-    // Whether the client has a live lease of an address of the pool.
-    fn is_own(&self, address: u16, clock: Clock, client: u32) -> bool
-        requires { address < self.now.addresses }
-        ensures { result ≡ owned clock.ticks client (table_of self.now.leases.items address) }
-    {
-        if self.clients[address as usize] != client {
-            return false;
-        }
-        is_owned(self.lease(address), clock, client)
+        *self.leases.get(usize::from(address))?
     }
 
     // The address of the client's live lease.
     fn own(&self, clock: Clock, client: u32) -> Option<u16>
-        ensures { result ≡ lowest (λ a. owned clock.ticks client (table_of self.now.leases.items a)) 0 self.now.addresses }
+        ensures { result ≡ lowest (λ a. owned clock.ticks client (table_of self.now a)) 0 (length self.now) }
     {
-        for a in 0..self.addresses {
-            if self.is_own(a, clock, client) {
-                return Some(a);
-            }
-        }
-        None
+        let mut places = self.leases.iter();
+        let found = places.position(|place| is_owned(*place, clock, client));
+        found.map(|address| address as u16)
+    }
+
+    // The preferred address, if it may be had.
+    fn preferred(&self, clock: Clock, request: Request) -> Option<u16>
+        ensures { result ≡ cond (nat_lt request.preferred (length self.now) && free clock.ticks request.client (table_of self.now request.preferred)) (Some request.preferred) None }
+    {
+        let place = *self.leases.get(usize::from(request.preferred))?;
+        is_free(place, clock, request.client).then_some(request.preferred)
     }
 
     // The lowest address on which no lease is live.
     fn vacancy(&self, clock: Clock) -> Option<u16>
-        ensures { result ≡ lowest (λ a. vacant clock.ticks (table_of self.now.leases.items a)) 0 self.now.addresses }
+        ensures { result ≡ lowest (λ a. vacant clock.ticks (table_of self.now a)) 0 (length self.now) }
     {
         let mut found = None;
-        'addresses: for a in 0..self.addresses {
-            if is_vacant(self.lease(a), clock) {
-                found = Some(a);
+        // a loop left by its label, one of the named forms (docs/DECISIONS.md)
+        'addresses: for (address, place) in self.leases.iter().enumerate() {
+            if is_vacant(*place, clock) {
+                found = Some(address as u16);
                 break 'addresses;
             }
         }
@@ -147,83 +109,62 @@ impl Table {
 
     // The address that a request is granted.
     pub fn choose(&self, clock: Clock, request: Request) -> Option<u16>
-        ensures value { result ≡ chosen self.now.addresses clock.ticks (table_of self.now.leases.items) request }
-        ensures laws { Chosen self.now.addresses clock.ticks (table_of self.now.leases.items) request result }
+        ensures value { result ≡ chosen (length self.now) clock.ticks (table_of self.now) request }
+        ensures laws { Chosen (length self.now) clock.ticks (table_of self.now) request result }
     {
-        if let Some(a) = self.own(clock, request.client) {
-            return Some(a);
-        }
-        let preferred = request.preferred;
-        if preferred < self.addresses && is_free(self.lease(preferred), clock, request.client) {
-            return Some(preferred);
-        }
-        self.vacancy(clock)
-    }
-
-    // What stands at an address of the pool from now on.
-    fn put(&mut self, address: u16, lease: Option<Lease>)
-        requires { (address < self.old.addresses) × (((l : Lease) → lease ≡ Some l → l.address ≡ address)) }
-        ensures leases { self.new.leases.items ≡ slice_set self.old.leases.items address lease }
-        ensures addresses { self.new.addresses ≡ self.old.addresses }
-    {
-        self.clients[address as usize] = label(lease);
-        self.leases[address as usize] = lease;
+        self.own(clock, request.client)
+            .or_else(|| self.preferred(clock, request))
+            .or_else(|| self.vacancy(clock))
     }
 
     // A lease is written in the place of its address's; one outside the pool is passed over.
     pub fn restore(&mut self, lease: Lease)
-        ensures table { table_of self.new.leases.items ≡ (if nat_lt lease.address self.old.addresses then written lease (table_of self.old.leases.items) else table_of self.old.leases.items) }
-        ensures addresses { self.new.addresses ≡ self.old.addresses }
+        ensures table { table_of self.new ≡ (if nat_lt lease.address (length self.old) then written lease (table_of self.old) else table_of self.old) }
+        ensures addresses { length self.new ≡ length self.old }
     {
-        if lease.address < self.addresses {
-            self.put(lease.address, Some(lease));
+        if let Some(place) = self.leases.get_mut(usize::from(lease.address)) {
+            *place = Some(lease);
         }
     }
 
     // The lease that a request is granted is written; refused where no address is free, and then nothing changes.
     pub fn grant(&mut self, clock: Clock, life: u32, request: Request) -> Result<Lease, Fault>
-        ensures value { result ≡ leasing clock.ticks life request (chosen self.old.addresses clock.ticks (table_of self.old.leases.items) request) }
-        ensures table { table_of self.new.leases.items ≡ entered result (table_of self.old.leases.items) }
-        ensures addresses { self.new.addresses ≡ self.old.addresses }
-        ensures others { (l : Lease) (b : ℕ) → result ≡ Ok l → (b ≢ l.address) → table_of self.new.leases.items b ≡ table_of self.old.leases.items b }
-        ensures one_each { OneEach clock.ticks (table_of self.old.leases.items) → OneEach clock.ticks (table_of self.new.leases.items) }
+        ensures value { result ≡ leasing clock.ticks life request (chosen (length self.old) clock.ticks (table_of self.old) request) }
+        ensures table { table_of self.new ≡ entered result (table_of self.old) }
+        ensures addresses { length self.new ≡ length self.old }
+        ensures others { (l : Lease) (b : ℕ) → result ≡ Ok l → (b ≢ l.address) → table_of self.new b ≡ table_of self.old b }
+        ensures one_each { OneEach clock.ticks (table_of self.old) → OneEach clock.ticks (table_of self.new) }
     {
-        let Some(address) = self.choose(clock, request) else {
-            return Err(Fault::NoneFree);
-        };
-        let lease = Lease {
-            address,
-            client: request.client,
-            expires: clock.ticks + u64::from(life),
-        };
+        let chosen = self.choose(clock, request);
+        let address = chosen.ok_or(Fault::NoneFree)?;
+        let lease = Lease::from_now(address, request.client, clock, life);
         self.restore(lease);
         Ok(lease)
     }
 
     // What stands at each address, in rising order.
     pub fn places(&self) -> &[Option<Lease>]
-        ensures { result.now ≡ self.now.leases.items }
+        ensures value { result.now ≡ self.now }
+        ensures placed { Placed (table_of self.now) }
     {
         self.leases.as_slice()
     }
 
     // The table is loaded from a list of places.
     pub fn load(&mut self, places: &[Option<Lease>])
-        ensures table { table_of self.new.leases.items ≡ loaded self.old.addresses places.now }
-        ensures addresses { self.new.addresses ≡ self.old.addresses }
+        ensures table { table_of self.new ≡ loaded (length self.old) places.now }
+        ensures addresses { length self.new ≡ length self.old }
     {
-        for a in 0..self.addresses {
-            self.put(a, at_home(places, a));
+        for (address, place) in self.leases.iter_mut().enumerate() {
+            *place = at_home(places, address);
         }
     }
 
     // No lease is left.
     pub fn clear(&mut self)
-        ensures table { table_of self.new.leases.items ≡ empty }
-        ensures addresses { self.new.addresses ≡ self.old.addresses }
+        ensures table { table_of self.new ≡ empty }
+        ensures addresses { length self.new ≡ length self.old }
     {
-        for a in 0..self.addresses {
-            self.put(a, None);
-        }
+        self.leases.fill(None);
     }
 }

@@ -7,75 +7,55 @@ ghost use Rattle.lease.specs.Code.{ServerImplements, ClientImplements};
 ghost use Rattle.lease.specs.Witness.{LentOn, LastTick, LentAnew, Renewed};
 
 // No two clients ever use one address: through crashes, requests heard and not answered, lost tables and the silence after.
-pub fn never_two() -> u8
+pub fn never_two()
     ensures { NeverTwo }
-{
-    0
-}
+{}
 
 // Whoever is heard while an address is free for it has one.
-pub fn can_have() -> u8
+pub fn can_have()
     ensures { CanHave }
-{
-    0
-}
+{}
 
 // Whoever uses an address, asks again and is heard, keeps it.
-pub fn keeps() -> u8
+pub fn keeps()
     ensures { Keeps }
-{
-    0
-}
+{}
 
 // Whatever a client uses, the table has as its lease.
-pub fn in_table() -> u8
+pub fn in_table()
     ensures { InTable }
-{
-    0
-}
+{}
 
 // No client ever has two live leases.
-pub fn one_lease_each() -> u8
+pub fn one_lease_each()
     ensures { OneLeaseEach }
-{
-    0
-}
+{}
 
 // The usual premise on clocks is stronger than what the promises need.
-pub fn closely_is_enough() -> u8
+pub fn closely_is_enough()
     ensures { CloselyIsEnough }
-{
-    0
-}
+{}
 
 // Clocks that drift apart by at most the skew in all meet it.
-pub fn little_drift() -> u8
+pub fn little_drift()
     ensures { LittleDrift }
-{
-    0
-}
+{}
 
 // The worked cases.
-pub fn cases_hold() -> u8
+pub fn cases_hold()
     ensures { CasesHold }
-{
-    0
-}
+{}
 
 // Runs within the premises, so that the promises aren't empty.
-pub fn witnesses() -> u8
+pub fn witnesses()
     ensures lent_on { LentOn }
     ensures last_tick { LastTick }
     ensures lent_anew { LentAnew }
     ensures renewed { Renewed }
-{
-    0
-}
+{}
 
 // Every step of the code is the model's: made of the very definitions that the contracts of its functions cite.
-pub fn implements() -> u8
+pub fn implements()
     ensures server { ServerImplements }
     ensures client { ClientImplements }
-{
-    0
-}
+{}

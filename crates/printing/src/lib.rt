@@ -3,4 +3,4 @@
 // The lines of a report as text.
 mod printer;
 
-pub use printer::{Printer, is_two, premise_name};
+pub use printer::{Printer, is_two};

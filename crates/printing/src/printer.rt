@@ -1,14 +1,15 @@
-ghost use Rattle.std.specs.Prelude.{◌≡◌};
+ghost use Rattle.std.specs.Prelude.{◌≡◌, ◌++◌, [], IfOk, OnOk, string_bytes};
 ghost use Rattle.system.specs.Promise.{names_two};
+ghost use Rattle.printing.specs.Text.{ended, line_text, pending_after, separated};
+ghost use Rattle.printing.specs.declared.printer.Pending.TheVariants.{Nothing};
 
-use std::alloc::Global;
-use std::io;
-use std::io::Write;
-use system::{Line, Party, Premise};
+use std::alloc::{AllocError, Global};
+use std::fmt::Write;
+use system::Line;
 
 // How far the line of a tick has come.
 #[derive(Clone, Copy)]
-enum Open {
+enum Pending {
     Nothing,
     Tick,
     Users,
@@ -17,93 +18,99 @@ enum Open {
 // The text of a report, one line after the other.
 #[derive(Drop)]
 pub struct Printer {
-    text: Vec<u8>,
-    open: Open,
-}
-
-// What a premise is called in a report.
-pub fn premise_name(premise: Premise) -> &'static str {
-    match premise {
-        Premise::Clocks => "clocks",
-        Premise::Message => "message",
-        Premise::Nonce => "nonce",
-        Premise::Number => "number",
-        Premise::Settings => "settings",
-        Premise::Count => "count",
-    }
+    text: String,
+    pending: Pending,
 }
 
 // Whether a line names an address that two use.
 pub fn is_two(line: Line) -> bool
     ensures { result ≡ names_two line }
 {
+    matches!(line, Line::Two { .. })
+}
+
+impl Pending {
+    fn after(line: Line) -> Pending
+        ensures { result ≡ pending_after line }
+    {
+        match line {
+            Line::Tick { .. } => Pending::Tick,
+            Line::User { .. } => Pending::Users,
+            _ => Pending::Nothing,
+        }
+    }
+
+    // What ends the line where no more users follow.
+    fn end(self) -> &'static str
+        ensures { result.now ≡ ended self }
+    {
+        match self {
+            Pending::Nothing => "",
+            Pending::Tick => "nobody\n",
+            Pending::Users => "\n",
+        }
+    }
+
+    // What stands before one more user.
+    fn separator(self) -> &'static str
+        ensures { result.now ≡ separated self }
+    {
+        match self {
+            Pending::Users => ", ",
+            _ => "",
+        }
+    }
+}
+
+fn write_line(text: &mut String, pending: Pending, line: Line) -> Result<(), AllocError>
+    ensures { OnOk result (string_bytes text.new ≡ string_bytes text.old ++ line_text pending line) }
+{
+    let end = pending.end();
     match line {
-        Line::Two { .. } => true,
-        _ => false,
+        Line::Fault(party, fault) => {
+            let number = fault.number();
+            writeln!(text, "{end}{party}: fault {number}")
+        }
+        Line::Broken(premise) => writeln!(text, "{end}premise: {premise}"),
+        Line::Two {
+            address,
+            first,
+            second,
+        } => writeln!(text, "{end}two use {address}: {first} and {second}"),
+        Line::Tick { clock } => write!(text, "{end}{clock}: "),
+        Line::User { client, address } => {
+            let separator = pending.separator();
+            write!(text, "{separator}{client} uses {address}")
+        }
     }
 }
 
 impl Printer {
-    pub fn new(heap: Global) -> Printer {
+    pub fn new(heap: Global) -> Printer
+        ensures text { string_bytes result.text ≡ [] }
+        ensures pending { result.pending ≡ Nothing }
+    {
         Printer {
-            text: Vec::new(heap),
-            open: Open::Nothing,
+            text: String::new(heap),
+            pending: Pending::Nothing,
         }
     }
 
-    // The line of a tick ends where no more users follow.
-    fn close(&mut self) -> io::Result<()> {
-        match self.open {
-            Open::Nothing => {}
-            Open::Tick => self.text.write_all(b"nobody\n")?,
-            Open::Users => self.text.write_all(b"\n")?,
-        }
-        self.open = Open::Nothing;
+    pub fn put(&mut self, line: Line) -> Result<(), AllocError>
+        ensures text { OnOk result (string_bytes self.new.text ≡ string_bytes self.old.text ++ line_text self.old.pending line) }
+        ensures pending { OnOk result (self.new.pending ≡ pending_after line) }
+    {
+        write_line(&mut self.text, self.pending, line)?;
+        self.pending = Pending::after(line);
         Ok(())
     }
 
-    fn put_user(&mut self, client: u8, address: u16) -> io::Result<()> {
-        if let Open::Users = self.open {
-            self.text.write_all(b", ")?;
-        }
-        self.open = Open::Users;
-        write!(self.text, "{client} uses {address}")
-    }
-
-    fn put_tick(&mut self, clock: u64) -> io::Result<()> {
-        self.open = Open::Tick;
-        write!(self.text, "{clock}: ")
-    }
-
-    fn put_fault(&mut self, party: Party, number: u8) -> io::Result<()> {
-        match party {
-            Party::Server => writeln!(self.text, "house: fault {number}"),
-            Party::Client(place) => writeln!(self.text, "box {place}: fault {number}"),
-        }
-    }
-
-    pub fn put(&mut self, line: Line) -> io::Result<()> {
-        if let Line::User { client, address } = line {
-            return self.put_user(client, address);
-        }
-        self.close()?;
-        match line {
-            Line::Fault(party, fault) => self.put_fault(party, fault.number()),
-            Line::Broken(premise) => writeln!(self.text, "premise: {}", premise_name(premise)),
-            Line::Two {
-                address,
-                first,
-                second,
-            } => writeln!(self.text, "two use {address}: {first} and {second}"),
-            Line::Tick { clock } => self.put_tick(clock),
-            Line::User { .. } => Ok(()),
-        }
-    }
-
     // The text of all lines so far, the last of them ended.
-    pub fn text(mut self) -> io::Result<Vec<u8>> {
-        self.close()?;
-        let Printer { text, open: _ } = self;
+    pub fn text(self) -> Result<String, AllocError>
+        ensures { IfOk result (λ text. string_bytes text ≡ string_bytes self.text ++ ended self.pending) }
+    {
+        let Printer { mut text, pending } = self;
+        text.push_str(pending.end())?;
         Ok(text)
     }
 }

@@ -1,7 +1,7 @@
 pub mod Places
+pub mod Scans
 pub mod Passes
 pub mod Users
-pub mod Devices
 pub mod Stamps
 pub mod Leads
 pub mod Watches

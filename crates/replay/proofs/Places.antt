@@ -1,6 +1,6 @@
--- What a list of clients stands for, after a read and after a write; scans over all places.
+-- What a list of clients stands for, after a read and after a write.
 -- Assumes nothing.
-use Rattle.std.proofs.Common.{◌≡◌, ℕ, zero, suc, ◌+◌, ◌<◌, Bool, false, ◌||◌, List, [], ◌∷◌, ◌++◌, map, length, get_or, set, sym, refl, ap, ◌∙◌, add-one, arith}
+use Rattle.std.proofs.Common.{◌≡◌, ℕ, zero, suc, ◌<◌, List, [], ◌∷◌, ◌++◌, map, length, get_or, set, sym, refl, ap, ◌∙◌, arith}
 use mathlib.Core.Path.{fun_ext}
 use Rattle.std.proofs.lemmas.List.{get_or-map, map-set, map-append, length-map}
 use Rattle.lease.specs.Table.{at}
@@ -8,7 +8,6 @@ use Rattle.lease.proofs.Places.{set_at}
 use Rattle.client.specs.declared.client.Client as code
 use Rattle.client.specs.Client as client
 use Rattle.client.specs.Of.{client_of}
-use Rattle.system.specs.Watch.{any_below}
 use Rattle.replay.specs.Parties.{clients_of}
 
 -- a client that was read
@@ -32,12 +31,3 @@ new-more (x ∷ xs) c e f (suc i) = new-more xs c e (λ j. f (suc j)) i
 
 pub all-new-more : (xs : List code.Client) (c : code.Client) → client_of c ≡ client.fresh → AllNew xs → AllNew (xs ++ c ∷ [])
 all-new-more xs c e f i = ap (λ (ys : List client.Client). get_or ys i client.fresh) (map-append client_of xs (c ∷ [])) ∙ new-more (map client_of xs) (client_of c) e f i
-
--- a scan over all places
-pub any_none : (test : ℕ → Bool) → false ≡ any_below test 0
-unfolding any_below
-any_none test = refl
-
-pub any-more : (test : ℕ → Bool) (n : ℕ) (b old : Bool) → b ≡ test n → old ≡ any_below test n → (b || old) ≡ any_below test (n + 1)
-unfolding any_below
-any-more test n b old e f = ap (λ (x : Bool). x || old) e ∙ ap (λ (x : Bool). test n || x) f ∙ ap (λ (k : ℕ). any_below test k) (sym (add-one n))

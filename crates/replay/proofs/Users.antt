@@ -14,9 +14,6 @@ users_more : (x : Parties) (i n : ℕ) → user_lines x i (suc n) ≡ user_line 
 unfolding user_lines
 users_more x i n = refl
 
-pub users_start : (x : Parties) (out : List Line) → out ++ user_lines x 0 (65 - 0) ≡ out ++ user_lines x 0 65
-users_start x out = refl
-
 pub users_turn : (x : Parties) (i : ℕ) (out next whole : List Line) → i < 65 → out ++ user_lines x i (65 - i) ≡ whole → next ≡ out ++ user_line i (in_use (x.clients i).state) →
     next ++ user_lines x (i + 1) (65 - (i + 1)) ≡ whole
 users_turn x i out next whole h e n =

@@ -1,7 +1,9 @@
 pub mod Lead
 pub mod Parties
+pub mod Hearing
 pub mod Watch
 pub mod Checks
 pub mod Heard
 pub mod Of
 pub mod Played
+pub mod Words

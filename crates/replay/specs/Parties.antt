@@ -1,6 +1,6 @@
 -- The parties that those in memory stand for, and the event that bytes are which come to one of them.
 -- Assumes nothing.
-use Rattle.std.specs.Prelude.{◌≡◌, ℕ, ◌^◌, ◌<◌, false, cond, ◌&&◌, List, [], ◌∷◌, map, is_some, vec_items, ◌==◌, slice_index_or}
+use Rattle.std.specs.Prelude.{ℕ, cond, ◌&&◌, List, [], ◌∷◌, map, is_some, Some, None, vec_items, Option, slice_index_or}
 use Rattle.wire.specs.declared.message.Message.{Message}
 use Rattle.server.specs.declared.effect.Effect.{Effect}
 use Rattle.server.specs.declared.effect.Effect.TheVariants.{Persist, Send}
@@ -25,27 +25,16 @@ abbrev pub event_of : Party → List ℕ → Event
 event_of Server bs = ToServer bs
 event_of (Client i) bs = ToClient i bs
 
--- the party has a place
-abbrev pub Placed : Party → Type 0
-Placed Server = Unit {0}
-Placed (Client i) = i < 65
+-- a party's place; the server stands at 0, where no client is
+abbrev pub place_of : Party → ℕ
+place_of Server = 0
+place_of (Client i) = i
 
 -- the message that an effect sends
 abbrev pub sent : Effect → List Message
-sent (Persist first count) = []
+sent (Persist w) = []
 sent (Send m) = m ∷ []
 
--- what the clock of a client shows that isn't up or has no number
-abbrev pub no_clock : ℕ
-no_clock = 18446744073709551615
-
--- what can be shown
-abbrev pub Early : ℕ → Type 0
-Early n = ((n == no_clock) ≡ false) → n < 2 ^ 63
-
-abbrev pub shown_by : client.Client → ℕ
-shown_by c = cond (c.state.holder.up && is_some c.state.own) c.state.holder.clock no_clock
-
-pub record Shows (c : client.Client) (clock : ℕ) : Type 0 where
-  pub value : clock ≡ shown_by c
-  pub early : c.state.holder.clock < 2 ^ 63
+-- the clock that a client shows: it is up and has a number
+abbrev pub shown_by : client.Client → Option ℕ
+shown_by c = cond (c.state.holder.up && is_some c.state.own) (Some c.state.holder.clock) None

@@ -1,6 +1,6 @@
 -- What playing a script comes to: the report of its events, with the promise on it, or why there is none.
 -- Assumes nothing: any bytes may be a script.
-use Rattle.std.specs.Prelude.{◌≡◌, ℕ, Bool, true, false, ◌⊎◌, List, [], ◌∷◌, ◌++◌, map, Ok, Err, Result}
+use Rattle.std.specs.Prelude.{◌≡◌, ℕ, false, ◌⊎◌, List, ◌++◌, map, Ok, Err, Result}
 use Rattle.script.specs.declared.entry.Entry.{Entry}
 use Rattle.script.specs.declared.entry.Unread.{Unread}
 use Rattle.script.specs.declared.entry.Unread.TheVariants as unread
@@ -8,7 +8,7 @@ use Rattle.script.specs.Script.{Part, Reads, Stuck, part_of}
 use Rattle.system.specs.declared.line.Line.{Line}
 use Rattle.system.specs.Parties.{Event}
 use Rattle.system.specs.Promise.{any, names_premise, names_two}
-use Rattle.system.specs.Report.{judged, report}
+use Rattle.system.specs.Report.{report}
 use Rattle.replay.specs.declared.player.Stopped.{Stopped}
 use Rattle.replay.specs.declared.player.Stopped.TheVariants.{Script, NoMemory}
 use Rattle.replay.specs.Heard.{called_by}
@@ -20,13 +20,8 @@ event_of_part p = called_by p.who p.message
 abbrev pub events_of : List Part → List Event
 events_of ps = map event_of_part ps
 
-abbrev pub events_in : (script : List ℕ) → List Entry → List Event
-events_in bytes es = events_of (map (part_of bytes) es)
-
--- whether the first of these events is judged
-abbrev pub judged_at : List Event → Bool
-judged_at [] = true
-judged_at (e ∷ es) = judged e es
+abbrev pub events_in : List Entry → List Event
+events_in es = events_of (map part_of es)
 
 abbrev pub stopped_by : Unread → Stopped
 stopped_by (unread.Fault n) = Script n

@@ -1,6 +1,6 @@
 -- What is noted of a run, as it stands in memory: each request, grant and nonce as a stamp.
 -- Assumes nothing.
-use Rattle.std.specs.Prelude.{ℕ, Bool, true, false, cond, ◌&&◌, List, [], ◌∷◌, map, Some, None, vec_items, Option, ◌==◌, slice_index_or}
+use Rattle.std.specs.Prelude.{ℕ, Bool, true, false, cond, ◌&&◌, List, [], ◌∷◌, ◌++◌, map, Some, None, Option, ◌==◌, slice_index_or}
 use Rattle.std.specs.Option.{option_map}
 use Rattle.lease.specs.declared.message.Grant as given
 use Rattle.lease.specs.declared.message.Request as asked
@@ -9,13 +9,15 @@ use Rattle.seen.specs.declared.seen.Seen.{Seen}
 use Rattle.seen.specs.declared.stamp.Stamp.{Stamp}
 use Rattle.seen.specs.Seen.{stamps_of}
 use Rattle.wire.specs.declared.message.Message.{Message}
+use Rattle.client.specs.Nonces.{request, requests}
+use Rattle.system.specs.declared.line.Party.{Party}
+use Rattle.system.specs.declared.line.Party.TheVariants.{Server, Client}
 use Rattle.system.specs.Watch as system
 use Rattle.replay.specs.declared.lead.Lead.{Lead}
 use Rattle.replay.specs.declared.watch.Watch.{Watch}
 use Rattle.replay.specs.declared.watch_steps.Moment.{Moment}
 use Rattle.replay.specs.declared.watch_steps.Moment.TheVariants.{Judged, WithinTicks}
 use Rattle.replay.specs.Lead.{lead_of}
-use Rattle.replay.specs.Parties.{no_clock}
 
 abbrev pub stamp_of_request : asked.Request → Stamp
 stamp_of_request r = record { client = r.client; nonce = r.nonce; address = r.preferred }
@@ -56,19 +58,27 @@ watch_of w =
       grants = grants_of w.grants;
       nonces = nonces_of w.nonces;
       settings = option_map settings_of w.settings;
-      leads = leads_of (vec_items w.leads);
+      leads = leads_of w.leads;
     }
 
--- a request or a grant that is not among these
-abbrev pub strange_request : Option Message → List asked.Request → Bool
-strange_request o rs = system.unsent_request o (record { requests = rs; grants = []; nonces = []; settings = None; leads = λ i. None })
+-- what is noted of a message that a party puts out, and of a list of them
+abbrev pub stamps_in_message : Party → Message → List Stamp
+stamps_in_message Server m = map stamp_of_grant (system.grant_of m)
+stamps_in_message (Client i) m = map stamp_of_request (request m)
 
-abbrev pub strange_grant : Option Message → List given.Grant → Bool
-strange_grant o gs = system.unsent_grant o (record { requests = []; grants = gs; nonces = []; settings = None; leads = λ i. None })
+abbrev pub stamps_in : Party → List Message → List Stamp
+stamps_in Server ms = map stamp_of_grant (system.grants ms)
+stamps_in (Client i) ms = map stamp_of_request (requests ms)
 
--- a moment at which a client shows a clock
-abbrev pub noted_by : (clock server : ℕ) → Option system.Lead → Option system.Lead
-noted_by n v o = cond (n == no_clock) o (Some (system.widened (system.lead n v) o))
+-- a watch after a party put out these
+abbrev pub said_by : Party → List Message → system.Watch → system.Watch
+said_by Server ms w = record { requests = w.requests; grants = system.grants ms ++ w.grants; nonces = w.nonces; settings = w.settings; leads = w.leads }
+said_by (Client i) ms w = record { requests = requests ms ++ w.requests; grants = w.grants; nonces = w.nonces; settings = w.settings; leads = w.leads }
+
+-- a moment at which a client shows a clock, or none
+abbrev pub noted_by : (shown : Option ℕ) → (server : ℕ) → Option system.Lead → Option system.Lead
+noted_by None v o = o
+noted_by (Some n) v o = Some (system.widened (system.lead n v) o)
 
 abbrev pub is_judged : Moment → Bool
 is_judged Judged = true

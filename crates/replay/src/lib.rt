@@ -2,6 +2,8 @@
 
 // A server, its device and 64 clients in one process, over the bytes that a script brings them: the very code of the programs, watched and reported.
 mod heard;
+mod hearing;
+mod hearing_steps;
 mod lead;
 mod parties;
 mod parties_steps;

@@ -1,43 +1,77 @@
-ghost use Rattle.std.specs.Prelude.{◌≡◌, ◌<◌, ◌++◌, length, drop, MatchResult};
-ghost use Rattle.script.specs.Script.{Within};
+ghost use Rattle.std.specs.Prelude.{◌≡◌, ◌++◌, Some, MatchResult};
+ghost use Rattle.script.specs.Script.{part_of};
 ghost use Rattle.system.specs.Promise.{NamesNoTwo};
-ghost use Rattle.system.specs.Report.{played, ticks_next};
+ghost use Rattle.system.specs.Report.{judged, played, ticks_next};
+ghost use Rattle.replay.specs.declared.player.Stopped.TheVariants.{NoMemory};
 ghost use Rattle.replay.specs.Of.{play_of};
-ghost use Rattle.replay.specs.Played.{Begun, Ended, events_in, judged_at, stopped_by};
+ghost use Rattle.replay.specs.Played.{Begun, Ended, event_of_part, events_in, stopped_by};
 ghost use Rattle.replay.specs.Watch.{is_judged};
+ghost use Rattle.replay.specs.Words.{stopped_words};
 
 use crate::heard::is_tick;
 use crate::simulation::{Simulation, Unheard};
 use crate::watch_steps::Moment;
 use script::{Entry, Unread};
-use std::alloc::Global;
+use std::alloc::{AllocError, Global};
+use std::error::Error;
+use std::fmt;
 use system::Line;
 use wire::read;
 
 // Why a script is not played to its end.
-#[derive(Clone, Copy)]
+#[derive(Clone, Copy, Debug, PartialEq, Eq)]
 pub enum Stopped {
     // it can't be read: the bad entry begins there
     Script { at: usize },
     NoMemory,
 }
 
-fn is_tick_at(script: &[u8], entries: &[Entry], i: usize) -> bool
-    requires { Within script.now entries.now }
-    ensures { result ≡ ticks_next (drop i (events_in script.now entries.now)) }
-{
-    if i >= entries.len() {
-        return false;
+impl From<Unread> for Stopped {
+    ghost from_gives = { λ u s. s ≡ stopped_by u };
+
+    fn from(unread: Unread) -> Stopped {
+        match unread {
+            Unread::Fault { at } => Stopped::Script { at },
+            Unread::NoMemory => Stopped::NoMemory,
+        }
     }
-    is_tick(read(entries[i].message(script)))
+}
+
+impl From<AllocError> for Stopped {
+    ghost from_gives = { λ _ s. s ≡ NoMemory };
+
+    fn from(_: AllocError) -> Stopped {
+        Stopped::NoMemory
+    }
+}
+
+impl fmt::Display for Stopped {
+    ghost output = { λ stopped. Some (stopped_words stopped) };
+
+    fn fmt<W: fmt::Write>(&self, f: &mut fmt::Formatter<W>) -> fmt::Result {
+        match self {
+            Stopped::Script { at } => write!(f, "script: fault 1 at byte {at}"),
+            Stopped::NoMemory => write!(f, "out of memory"),
+        }
+    }
+}
+
+impl Error for Stopped {}
+
+fn begins_with_tick(entries: &[Entry<'_>]) -> bool
+    ensures { result ≡ ticks_next (events_in entries.now) }
+{
+    match entries {
+        [entry, ..] => is_tick(read(entry.message)),
+        [] => false,
+    }
 }
 
 // A tick that is followed by a tick is no moment to be judged.
-fn moment_at(script: &[u8], entries: &[Entry], i: usize) -> Moment
-    requires { (Within script.now entries.now) × (i < length entries.now) }
-    ensures { is_judged result ≡ judged_at (drop i (events_in script.now entries.now)) }
+fn moment_of(entry: &Entry<'_>, after: &[Entry<'_>]) -> Moment
+    ensures { is_judged result ≡ judged (event_of_part (part_of entry.now)) (events_in after.now) }
 {
-    if is_tick_at(script, entries, i) && is_tick_at(script, entries, i + 1) {
+    if is_tick(read(entry.message)) && begins_with_tick(after) {
         return Moment::WithinTicks;
     }
     Moment::Judged
@@ -46,31 +80,18 @@ fn moment_at(script: &[u8], entries: &[Entry], i: usize) -> Moment
 // Plays entries one after the other.
 fn play_all(
     simulation: &mut Simulation,
-    script: &[u8],
-    entries: &[Entry],
+    entries: &[Entry<'_>],
     report: &mut Vec<Line>,
 ) -> Result<(), Unheard>
-    requires { Within script.now entries.now }
-    ensures { MatchResult result (λ _. report.new.items ≡ report.old.items ++ played (events_in script.now entries.now) (play_of simulation.old)) (λ _. Begun (played (events_in script.now entries.now) (play_of simulation.old)) report.old.items report.new.items) }
+    ensures { MatchResult result (λ _. report.new.items ≡ report.old.items ++ played (events_in entries.now) (play_of simulation.old)) (λ _. Begun (played (events_in entries.now) (play_of simulation.old)) report.old.items report.new.items) }
 {
-    for i in 0..entries.len() {
-        let entry = entries[i];
-        let moment = moment_at(script, entries, i);
-        match simulation.hear(entry.who, entry.message(script), moment, report) {
-            Ok(()) => {}
-            Err(unheard) => return Err(unheard),
-        }
+    let mut rest = entries;
+    while let [entry, after @ ..] = rest {
+        let moment = moment_of(entry, after);
+        simulation.hear(entry.who, entry.message, moment, report)?;
+        rest = after;
     }
     Ok(())
-}
-
-fn why(unread: Unread) -> Stopped
-    ensures { result ≡ stopped_by unread }
-{
-    match unread {
-        Unread::Fault { at } => Stopped::Script { at },
-        Unread::NoMemory => Stopped::NoMemory,
-    }
 }
 
 // Plays a script that is read whole first, and appends what is reported of the run. A report that names no broken premise names no address that two use.
@@ -79,14 +100,8 @@ pub fn play(heap: Global, script: &[u8], report: &mut Vec<Line>) -> Result<(), S
     ensures promise { NamesNoTwo }
 {
     let mut entries = Vec::new(heap);
-    if let Err(unread) = script::read(script, &mut entries) {
-        return Err(why(unread));
-    }
-    let Ok(mut simulation) = Simulation::new(heap) else {
-        return Err(Stopped::NoMemory);
-    };
-    match play_all(&mut simulation, script, &entries, report) {
-        Ok(()) => Ok(()),
-        Err(_) => Err(Stopped::NoMemory),
-    }
+    script::read(script, &mut entries)?;
+    let mut simulation = Simulation::new(heap)?;
+    // whoever a script names is there
+    play_all(&mut simulation, &entries, report).map_err(|_| Stopped::NoMemory)
 }

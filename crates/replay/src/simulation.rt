@@ -1,24 +1,48 @@
-ghost use Rattle.std.specs.Prelude.{◌≡◌, ◌≤◌, false, is_ok, IfOk, Err, OnOk};
+ghost use Rattle.std.specs.Prelude.{◌≡◌, ℕ, ◌≤◌, false, List, is_ok, Some, IfOk, Err, MatchOption, OnOk};
 ghost use Rattle.system.specs.Report.{beginning};
-ghost use Rattle.replay.specs.declared.simulation.Unheard.TheVariants.{NoSuchParty};
+ghost use Rattle.replay.specs.declared.simulation.Unheard.TheVariants.{NoMemory, NoSuchParty};
 ghost use Rattle.replay.specs.Heard.{Heard, called_by};
 ghost use Rattle.replay.specs.Of.{play_of};
-ghost use Rattle.replay.specs.Parties.{Placed, event_of};
+ghost use Rattle.replay.specs.Hearing.{event_in};
 ghost use Rattle.replay.specs.Watch.{is_judged};
+ghost use Rattle.replay.specs.Words.{unheard_words};
 
-use crate::parties::PLACES;
+use crate::hearing::Hearing;
 use crate::run::Run;
 use crate::watch_steps::Moment;
 use std::alloc::{AllocError, Global};
-use system::{Line, Party};
+use std::error::Error;
+use std::fmt;
+use system::Line;
 
 // Why a message is not brought to anybody.
-#[derive(Clone, Copy)]
+#[derive(Clone, Copy, Debug, PartialEq, Eq)]
 pub enum Unheard {
     // there are 64 clients
     NoSuchParty,
     NoMemory,
 }
+
+impl From<AllocError> for Unheard {
+    ghost from_gives = { λ _ u. u ≡ NoMemory };
+
+    fn from(_: AllocError) -> Unheard {
+        Unheard::NoMemory
+    }
+}
+
+impl fmt::Display for Unheard {
+    ghost output = { λ unheard. Some (unheard_words unheard) };
+
+    fn fmt<W: fmt::Write>(&self, f: &mut fmt::Formatter<W>) -> fmt::Result {
+        f.write_str(match self {
+            Unheard::NoSuchParty => "no such party",
+            Unheard::NoMemory => "out of memory",
+        })
+    }
+}
+
+impl Error for Unheard {}
 
 // A run, with room for the lines of one step.
 #[derive(Drop)]
@@ -41,17 +65,15 @@ impl Simulation {
 
     fn hear_as(
         &mut self,
-        listener: Party,
-        bytes: &[u8],
+        hearing: &Hearing<'_>,
         moment: Moment,
         out: &mut Vec<Line>,
     ) -> Result<(), AllocError>
-        requires { Placed listener }
-        ensures heard { OnOk result (Heard (is_judged moment) (event_of listener bytes.now) (play_of self.old) (play_of self.new) out.old.items out.new.items) }
+        ensures heard { OnOk result (Heard (is_judged moment) (event_in hearing.now) (play_of self.old) (play_of self.new) out.old.items out.new.items) }
         ensures kept { is_ok result ≡ false → out.new.items ≡ out.old.items }
     {
         self.lines.clear();
-        self.run.step(listener, bytes, moment, &mut self.lines)?;
+        self.run.step(hearing, moment, &mut self.lines)?;
         out.extend_from_slice(&self.lines)?;
         Ok(())
     }
@@ -68,17 +90,8 @@ impl Simulation {
         ensures kept { is_ok result ≡ false → out.new.items ≡ out.old.items }
         ensures refused { 65 ≤ who → (result ≡ Err NoSuchParty) × (play_of self.new ≡ play_of self.old) }
     {
-        if who as usize >= PLACES {
-            return Err(Unheard::NoSuchParty);
-        }
-        let listener = if who == 0 {
-            Party::Server
-        } else {
-            Party::Client(who)
-        };
-        match self.hear_as(listener, bytes, moment, out) {
-            Ok(()) => Ok(()),
-            Err(_) => Err(Unheard::NoMemory),
-        }
+        let hearing = Hearing::of(who, bytes).ok_or(Unheard::NoSuchParty)?;
+        self.hear_as(&hearing, moment, out)?;
+        Ok(())
     }
 }

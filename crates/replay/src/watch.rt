@@ -1,6 +1,5 @@
-ghost use Rattle.std.specs.Prelude.{◌≡◌, vec_len};
-
 use crate::lead::Lead;
+use crate::parties::PLACES;
 use lease::Settings;
 use seen::Seen;
 
@@ -11,6 +10,5 @@ pub struct Watch {
     pub(crate) grants: Seen,
     pub(crate) nonces: Seen,
     pub(crate) settings: Option<Settings>,
-    pub(crate) leads: Vec<Option<Lead>>,
-    ghost led: { vec_len leads ≡ 65 },
+    pub(crate) leads: [Option<Lead>; PLACES],
 }

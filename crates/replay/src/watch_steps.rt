@@ -1,32 +1,35 @@
-ghost use Rattle.std.specs.Prelude.{◌≡◌, ℕ, ◌^◌, ◌<◌, List, ◌++◌, length, IfOk, OnOk, slice_index};
+ghost use Rattle.std.specs.Prelude.{◌≡◌, ℕ, ◌<◌, List, ◌++◌, length, IfOk, OnOk};
 ghost use Rattle.std.specs.Option.{option_map, option_to_list};
 ghost use Rattle.lease.specs.Of.{settings_of};
-ghost use Rattle.lease.specs.World.{elem};
 ghost use Rattle.wire.specs.Read.{read};
-ghost use Rattle.client.specs.Nonces.{request as request_in, requests as requests_in};
-ghost use Rattle.system.specs.Watch.{anew, any_below, any_in, apart, differ as differing, drawn as drawing, granted, grant_of as grant_in, grants as grants_in, grants_by, leads_after, noted, or_first, requested, requests_by, unsent, unwatched, watched, wide};
+ghost use Rattle.seen.specs.Seen.{stamps_of};
+ghost use Rattle.system.specs.Watch.{anew, any_below, any_in, apart, differ as differing, drawn as drawing, leads_after, noted, unsent, unwatched, watched, wide};
 ghost use Rattle.replay.specs.Lead.{lead_of};
-ghost use Rattle.replay.specs.Parties.{Early, Placed, Shows, clients_of, event_of, parties_of};
-ghost use Rattle.replay.specs.Watch.{grants_of, is_judged, leads_of, nonces_of, noted_by, requests_of, stamp_of_grant, stamp_of_nonce, stamp_of_request, strange_grant, strange_request, watch_of};
+ghost use Rattle.replay.specs.Hearing.{event_in};
+ghost use Rattle.replay.specs.Parties.{clients_of, parties_of, shown_by};
+ghost use Rattle.replay.specs.Watch.{is_judged, leads_of, noted_by, said_by, stamp_of_grant, stamp_of_nonce, stamp_of_request, stamps_in, stamps_in_message, watch_of};
 
 use crate::heard::{nonce_in, start_in};
+use crate::hearing::Hearing;
 use crate::lead::{Lead, is_wide, lead_of, widen};
 use crate::parties::{PLACES, Parties};
-use crate::parties_steps::NO_CLOCK;
+use crate::parties_steps::shown_clock;
 use crate::watch::Watch;
-use lease::{Grant, Request, Settings};
+use client::Client;
+use lease::{Clock, Grant, Request, Settings};
 use seen::{Seen, Stamp};
 use std::alloc::{AllocError, Global};
 use system::Party;
 use wire::Message;
 
 // Whether an event is a moment at which clocks are compared, or a tick that another follows.
-#[derive(Clone, Copy)]
+#[derive(Clone, Copy, Debug, PartialEq, Eq)]
 pub enum Moment {
     Judged,
     WithinTicks,
 }
 
+// A From from one crate's type to another's can't stand in a third, so stamps are made by functions. A nonce is a stamp of nobody's: one type of sets serves requests, grants and nonces.
 fn of_request(request: Request) -> Stamp
     ensures { result ≡ stamp_of_request request }
 {
@@ -57,212 +60,100 @@ fn of_nonce(nonce: u64) -> Stamp
     }
 }
 
-fn was_requested(requests: &Seen, request: Request) -> bool
-    ensures { result ≡ requested request (requests_of requests.now) }
+// What is noted of a message that a party puts out: clients send requests, and the server sends grants.
+fn stamp_in(speaker: Party, message: Message) -> Option<Stamp>
+    ensures { option_to_list result ≡ stamps_in_message speaker message }
 {
-    requests.contains(of_request(request))
+    match (speaker, message) {
+        (Party::Server, Message::Grant(grant)) => Some(of_grant(grant)),
+        (Party::Client(_), Message::Request(request)) => Some(of_request(request)),
+        _ => None,
+    }
 }
 
-fn was_granted(grants: &Seen, grant: Grant) -> bool
-    ensures { result ≡ granted grant (grants_of grants.now) }
+fn note_stamp(sent: &mut Seen, stamp: Option<Stamp>) -> Result<(), AllocError>
+    ensures { OnOk result (stamps_of sent.new ≡ option_to_list stamp ++ stamps_of sent.old) }
 {
-    grants.contains(of_grant(grant))
-}
-
-fn was_drawn(nonces: &Seen, nonce: u64) -> bool
-    ensures { result ≡ elem nonce (nonces_of nonces.now) }
-{
-    nonces.contains(of_nonce(nonce))
-}
-
-// A request that was never sent.
-fn is_unsent_request(requests: &Seen, heard: Option<Message>) -> bool
-    ensures { result ≡ strange_request heard (requests_of requests.now) }
-{
-    let Some(message) = heard else {
-        return false;
+    let Some(stamp) = stamp else {
+        return Ok(());
     };
-    match message {
-        Message::Request(request) => !was_requested(requests, request),
-        _ => false,
-    }
+    sent.insert(stamp)
 }
 
-// A grant that was never sent.
-fn is_unsent_grant(grants: &Seen, heard: Option<Message>) -> bool
-    ensures { result ≡ strange_grant heard (grants_of grants.now) }
+// Notes what a party puts out, from the last on, so that the first is the newest.
+fn note_sent(sent: &mut Seen, speaker: Party, said: &[Message]) -> Result<(), AllocError>
+    ensures { OnOk result (stamps_of sent.new ≡ stamps_in speaker said.now ++ stamps_of sent.old) }
 {
-    let Some(message) = heard else {
-        return false;
-    };
-    match message {
-        Message::Grant(grant) => !was_granted(grants, grant),
-        _ => false,
-    }
-}
-
-fn note_request(requests: &mut Seen, message: Message) -> Result<(), AllocError>
-    ensures { OnOk result (requests_of requests.new ≡ request_in message ++ requests_of requests.old) }
-{
-    match message {
-        Message::Request(request) => requests.insert(of_request(request)),
-        _ => Ok(()),
-    }
-}
-
-fn note_grant(grants: &mut Seen, message: Message) -> Result<(), AllocError>
-    ensures { OnOk result (grants_of grants.new ≡ grant_in message ++ grants_of grants.old) }
-{
-    match message {
-        Message::Grant(grant) => grants.insert(of_grant(grant)),
-        _ => Ok(()),
-    }
-}
-
-// From the last on, so that the first is the newest.
-fn note_requests(requests: &mut Seen, said: &[Message]) -> Result<(), AllocError>
-    ensures { OnOk result (requests_of requests.new ≡ requests_in said.now ++ requests_of requests.old) }
-{
-    for i in (0..said.len()).rev() {
-        note_request(requests, said[i])?;
+    for message in said.iter().rev() {
+        note_stamp(sent, stamp_in(speaker, *message))?;
     }
     Ok(())
-}
-
-fn note_grants(grants: &mut Seen, said: &[Message]) -> Result<(), AllocError>
-    ensures { OnOk result (grants_of grants.new ≡ grants_in said.now ++ grants_of grants.old) }
-{
-    for i in (0..said.len()).rev() {
-        note_grant(grants, said[i])?;
-    }
-    Ok(())
-}
-
-// Clients send requests.
-fn note_requests_of(requests: &mut Seen, speaker: Party, said: &[Message]) -> Result<(), AllocError>
-    ensures { OnOk result ((bs : List ℕ) → requests_of requests.new ≡ requests_by (event_of speaker bs) said.now ++ requests_of requests.old) }
-{
-    match speaker {
-        Party::Server => Ok(()),
-        Party::Client(_) => note_requests(requests, said),
-    }
-}
-
-// The server sends grants.
-fn note_grants_of(grants: &mut Seen, speaker: Party, said: &[Message]) -> Result<(), AllocError>
-    ensures { OnOk result ((bs : List ℕ) → grants_of grants.new ≡ grants_by (event_of speaker bs) said.now ++ grants_of grants.old) }
-{
-    match speaker {
-        Party::Server => note_grants(grants, said),
-        Party::Client(_) => Ok(()),
-    }
-}
-
-fn note_nonce(nonces: &mut Seen, nonce: Option<u64>) -> Result<(), AllocError>
-    ensures { OnOk result (nonces_of nonces.new ≡ option_to_list nonce ++ nonces_of nonces.old) }
-{
-    match nonce {
-        Some(drawn) => nonces.insert(of_nonce(drawn)),
-        None => Ok(()),
-    }
-}
-
-fn or_first(first: Option<Settings>, later: Option<Settings>) -> Option<Settings>
-    ensures { option_map settings_of result ≡ or_first (option_map settings_of first) (option_map settings_of later) }
-{
-    match first {
-        Some(settings) => Some(settings),
-        None => later,
-    }
 }
 
 // Two parties have different settings.
 pub(crate) fn differ(one: Option<Settings>, other: Option<Settings>) -> bool
     ensures { result ≡ differing (option_map settings_of one) (option_map settings_of other) }
 {
-    let Some(k) = one else {
-        return false;
-    };
-    let Some(j) = other else {
-        return false;
-    };
-    !(k.addresses() == j.addresses() && k.term() == j.term() && k.skew() == j.skew())
+    one.zip(other).is_some_and(|(one, other)| one != other)
 }
 
 // One moment more, where the client shows a clock.
-fn note_clock(known: Option<Lead>, clock: u64, server: u64) -> Option<Lead>
-    requires { (server < 2 ^ 63) × (Early clock) }
-    ensures { option_map lead_of result ≡ noted_by clock server (option_map lead_of known) }
+fn note_clock(known: Option<Lead>, clock: Option<Clock>, server: Clock) -> Option<Lead>
+    ensures { option_map lead_of result ≡ noted_by (option_map (λ c. c.ticks) clock) server.ticks (option_map lead_of known) }
 {
-    if clock == NO_CLOCK {
-        return known;
-    }
-    Some(widen(known, lead_of(clock, server)))
+    clock
+        .map(|clock| widen(known, lead_of(clock, server)))
+        .or(known)
 }
 
 // The moment is noted for each client that shows a clock.
-fn note_clocks(leads: &mut [Option<Lead>], clocks: &[u64], server: u64)
-    requires { (length leads.old ≡ 65) × ((length clocks.now ≡ 65) × ((server < 2 ^ 63) × (((k : ℕ) → k < 65 → Early (slice_index clocks.now k))))) }
-    ensures { (k : ℕ) → k < 65 → leads_of leads.new k ≡ noted_by (slice_index clocks.now k) server (leads_of leads.old k) }
+fn note_clocks(leads: &mut [Option<Lead>], clients: &[Client], server: Clock)
+    requires { length leads.old ≡ length clients.now }
+    ensures { (k : ℕ) → k < length clients.now → leads_of leads.new k ≡ noted_by (shown_by (clients_of clients.now k)) server.ticks (leads_of leads.old k) }
 {
-    for place in 0..PLACES {
-        leads[place] = note_clock(leads[place], clocks[place], server);
+    // by place: of what is written through iter_mut nothing is known afterwards
+    for (place, client) in clients.iter().enumerate() {
+        leads[place] = note_clock(leads[place], shown_clock(client), server);
     }
 }
 
 // Some client's clock and the server's went on by amounts that differ by more than the skew.
-fn is_any_wide(leads: &[Option<Lead>], skew: u16) -> bool
-    requires { length leads.now ≡ 65 }
+fn is_any_wide(leads: &[Option<Lead>; PLACES], skew: u16) -> bool
     ensures { result ≡ any_below (λ i. wide skew (leads_of leads.now i)) 65 }
 {
-    let mut found = false;
-    for place in 0..PLACES {
-        found = is_wide(leads[place], skew) | found;
-    }
-    found
+    leads.iter().any(|known| is_wide(*known, skew))
 }
 
 // A client that restarts or crashes begins anew.
-fn begin_anew(
-    leads: &mut [Option<Lead>],
-    listener: Party,
-    heard: Option<Message>,
-    parties: &Parties,
-)
-    requires { (length leads.old ≡ 65) × (Placed listener) }
-    ensures { (bs : List ℕ) → heard ≡ read bs → leads_of leads.new ≡ anew (event_of listener bs) (parties_of parties.now) (leads_of leads.old) }
+fn begin_anew(leads: &mut [Option<Lead>; PLACES], hearing: &Hearing<'_>, parties: &Parties)
+    ensures { leads_of leads.new ≡ anew (event_in hearing.now) (parties_of parties.now) (leads_of leads.old) }
 {
-    if let Party::Client(place) = listener {
-        let place = place as usize;
-        if start_in(heard).is_some() || !parties.client(place).is_up() {
+    if let Party::Client(place) = hearing.party {
+        let place = usize::from(place);
+        if start_in(hearing.heard).is_some() || !parties.client(place).is_up() {
             leads[place] = None;
         }
     }
 }
 
 // The moment is noted, where the server is up.
-fn note_moment(leads: &mut [Option<Lead>], parties: &Parties)
-    requires { length leads.old ≡ 65 }
+fn note_moment(leads: &mut [Option<Lead>; PLACES], parties: &Parties)
     ensures { leads_of leads.new ≡ noted (parties_of parties.now) (leads_of leads.old) }
 {
     if parties.server.is_up() {
-        let mut clocks = [0u64; PLACES];
-        parties.show_clocks(&mut clocks);
-        note_clocks(leads, &clocks, parties.server.clock().ticks());
+        note_clocks(leads, &parties.clients, parties.server.clock());
     }
 }
 
 fn note_leads(
-    leads: &mut [Option<Lead>],
-    listener: Party,
-    heard: Option<Message>,
+    leads: &mut [Option<Lead>; PLACES],
+    hearing: &Hearing<'_>,
     parties: &Parties,
     moment: Moment,
 )
-    requires { (length leads.old ≡ 65) × (Placed listener) }
-    ensures { (bs : List ℕ) → heard ≡ read bs → leads_of leads.new ≡ leads_after (is_judged moment) (event_of listener bs) (parties_of parties.now) (leads_of leads.old) }
+    ensures { leads_of leads.new ≡ leads_after (is_judged moment) (event_in hearing.now) (parties_of parties.now) (leads_of leads.old) }
 {
-    begin_anew(leads, listener, heard, parties);
+    begin_anew(leads, hearing, parties);
     match moment {
         Moment::Judged => note_moment(leads, parties),
         Moment::WithinTicks => {}
@@ -273,26 +164,27 @@ impl Watch {
     pub(crate) fn new(heap: Global) -> Result<Watch, AllocError>
         ensures { IfOk result (λ w. watch_of w ≡ unwatched) }
     {
-        let requests = Seen::new(heap)?;
-        let grants = Seen::new(heap)?;
-        let nonces = Seen::new(heap)?;
-        let leads = vec![in heap; None; PLACES]?;
         Ok(Watch {
-            requests,
-            grants,
-            nonces,
+            requests: Seen::new(heap),
+            grants: Seen::new(heap),
+            nonces: Seen::new(heap),
             settings: None,
-            leads,
+            leads: [None; PLACES],
         })
     }
 
     // A request to the server, or a grant to a client, that was never sent.
-    pub(crate) fn is_unsent(&self, listener: Party, heard: Option<Message>) -> bool
-        ensures { (bs : List ℕ) → heard ≡ read bs → result ≡ unsent (event_of listener bs) (watch_of self.now) }
+    pub(crate) fn is_unsent(&self, hearing: &Hearing<'_>) -> bool
+        ensures { result ≡ unsent (event_in hearing.now) (watch_of self.now) }
     {
-        match listener {
-            Party::Server => is_unsent_request(&self.requests, heard),
-            Party::Client(_) => is_unsent_grant(&self.grants, heard),
+        match (hearing.party, hearing.heard) {
+            (Party::Server, Some(Message::Request(request))) => {
+                !self.requests.contains(of_request(request))
+            }
+            (Party::Client(_), Some(Message::Grant(grant))) => {
+                !self.grants.contains(of_grant(grant))
+            }
+            _ => false,
         }
     }
 
@@ -300,50 +192,50 @@ impl Watch {
     pub(crate) fn is_drawn(&self, nonce: Option<u64>) -> bool
         ensures { result ≡ any_in (option_to_list nonce) (watch_of self.now).nonces }
     {
-        match nonce {
-            Some(drawn) => was_drawn(&self.nonces, drawn),
-            None => false,
-        }
+        nonce.is_some_and(|nonce| self.nonces.contains(of_nonce(nonce)))
     }
 
     pub(crate) fn is_apart(&self) -> bool
         ensures { result ≡ apart (watch_of self.now).settings (watch_of self.now).leads }
     {
-        match self.settings {
-            Some(settings) => is_any_wide(&self.leads, settings.skew()),
-            None => false,
-        }
+        self.settings
+            .is_some_and(|settings| is_any_wide(&self.leads, settings.skew()))
     }
 
-    // A client that restarts or crashes begins anew.
+    // The requests or the grants that a party puts out are noted.
+    fn note_said(&mut self, speaker: Party, said: &[Message]) -> Result<(), AllocError>
+        ensures { OnOk result (watch_of self.new ≡ said_by speaker said.now (watch_of self.old)) }
+    {
+        match speaker {
+            Party::Server => note_sent(&mut self.grants, speaker, said),
+            Party::Client(_) => note_sent(&mut self.requests, speaker, said),
+        }
+    }
 
     // The watch after a message was heard, which left the parties so and made the listener say this.
     pub(crate) fn note(
         &mut self,
-        listener: Party,
-        heard: Option<Message>,
+        hearing: &Hearing<'_>,
         parties: &Parties,
         said: &[Message],
         moment: Moment,
     ) -> Result<(), AllocError>
-        requires { Placed listener }
-        ensures { OnOk result ((bs : List ℕ) → heard ≡ read bs → watch_of self.new ≡ watched (is_judged moment) (event_of listener bs) (record { parties = parties_of parties.entry.now; said = said.now }) (watch_of self.old)) }
+        ensures { OnOk result (watch_of self.new ≡ watched (is_judged moment) (event_in hearing.now) (record { parties = parties_of parties.entry.now; said = said.now }) (watch_of self.old)) }
     {
-        note_requests_of(&mut self.requests, listener, said)?;
-        note_grants_of(&mut self.grants, listener, said)?;
-        note_nonce(&mut self.nonces, drawn(listener, heard))?;
-        self.settings = or_first(self.settings, parties.settings(listener));
-        note_leads(&mut self.leads, listener, heard, parties, moment);
+        self.note_said(hearing.party, said)?;
+        note_stamp(&mut self.nonces, drawn(hearing).map(of_nonce))?;
+        self.settings = self.settings.or(parties.settings(hearing));
+        note_leads(&mut self.leads, hearing, parties, moment);
         Ok(())
     }
 }
 
 // The nonce that a client is lent.
-pub(crate) fn drawn(listener: Party, heard: Option<Message>) -> Option<u64>
-    ensures { (bs : List ℕ) → heard ≡ read bs → option_to_list result ≡ drawing (event_of listener bs) }
+pub(crate) fn drawn(hearing: &Hearing<'_>) -> Option<u64>
+    ensures { option_to_list result ≡ drawing (event_in hearing.now) }
 {
-    match listener {
+    match hearing.party {
         Party::Server => None,
-        Party::Client(_) => nonce_in(heard),
+        Party::Client(_) => nonce_in(hearing.heard),
     }
 }

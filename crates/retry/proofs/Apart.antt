@@ -2,11 +2,12 @@
 -- Assumes nothing.
 use Rattle.std.proofs.Common.{◌≡◌, ℕ, ◌+◌, ◌-◌, ◌≤◌, true, false, List, [], ◌∷◌, ◌++◌, Some, None, Option, refl, arith}
 use Rattle.std.proofs.lemmas.Bool.{cond_both, leb-true, both_ways}
+use Rattle.std.proofs.lemmas.Option.{same_Some, none-some}
 use Rattle.retry.specs.declared.schedule.Schedule.{Schedule}
 use Rattle.retry.specs.Schedule.{requested}
 use Rattle.retry.specs.Run.{Client, Event, Starts, Ticks, Asks, Takes, over, step, client, Fits, Lawful}
 use Rattle.retry.specs.Pacing.{starts, loses, Never, FourApart, SixtyApart}
-use Rattle.retry.proofs.Steps.{some_same, some-none, lasts-within, renewal-least, requested-some}
+use Rattle.retry.proofs.Steps.{lasts-within, renewal-least, requested-some}
 
 requested-least : (s : Schedule) (now : ℕ) (o : Option ℕ) → now + 4 ≤ (requested s now o).next
 requested-least s now None = omega (arith, (lasts-within s.pause).0)
@@ -23,8 +24,8 @@ after-step q c Ticks s h =
     cond_both (over (c.clock + 1) c.uses) _ _ (λ (x : Client). After q x)
     (λ e. record { clock = omega (arith, h.clock); waits = h.waits })
     (λ e. record { clock = omega (arith, h.clock); waits = h.waits })
-after-step q c Asks s h = record { clock = h.clock; waits = λ a e. omega (arith, h.clock, some_same c.clock a e) }
-after-step q c (Takes asked term) s h = record { clock = h.clock; waits = λ a e. absurd (some-none a e) }
+after-step q c Asks s h = record { clock = h.clock; waits = λ a e. omega (arith, h.clock, same_Some c.clock a e) }
+after-step q c (Takes asked term) s h = record { clock = h.clock; waits = λ a e. absurd (none-some a e) }
 
 -- while no address is lost, nothing is due before `q + 4`
 four_step : (q : ℕ) (c : Client) (e : Event) → Fits e c → starts c e ≡ false → loses c e ≡ false → After q c → q + 4 ≤ c.schedule.next → q + 4 ≤ (step e c).schedule.next
@@ -45,7 +46,7 @@ unfolding Sixty
 sixty_step q c (Starts t) f s h n = absurd (both_ways true s refl)
 sixty_step q c Ticks f s h n =
     cond_both (over (c.clock + 1) c.uses) _ _ (λ (x : Client). Sixty q x)
-    (λ e u g. absurd (some-none u g))
+    (λ e u g. absurd (none-some u g))
     (λ e. n)
 sixty_step q c Asks f s h n = λ u g. omega (arith, h.clock, requested-some c.schedule c.clock u c.uses g, renewal-least (u - c.clock))
 sixty_step q c (Takes asked term) f s h n = λ u g. omega (arith, h.waits asked f.0, renewal-least term)
@@ -53,7 +54,7 @@ sixty_step q c (Takes asked term) f s h n = λ u g. omega (arith, h.waits asked 
 module _ (before : List Event) where
   asked-at : After (client before).clock (client (Asks ∷ before))
   unfolding client
-  asked-at = record { clock = omega arith; waits = λ a e. omega (arith, some_same (client before).clock a e) }
+  asked-at = record { clock = omega arith; waits = λ a e. omega (arith, same_Some (client before).clock a e) }
 
   after : (between : List Event) → Never starts (Asks ∷ before) between → After (client before).clock (client (between ++ (Asks ∷ before)))
   unfolding Never client

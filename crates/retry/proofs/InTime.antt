@@ -3,10 +3,11 @@
 use Rattle.std.proofs.Common.{◌≡◌, ℕ, ◌+◌, ◌/◌, ◌<◌, ◌≤◌, true, false, ◌⊎◌, List, [], ◌∷◌, ◌++◌, Some, None, Option, sym, refl, ◌∙◌, inl, inr, arith}
 use native.Mathlib.Nat.{max-le}
 use Rattle.std.proofs.lemmas.Bool.{cond_both, leb-false, ltb-true, both_ways}
+use Rattle.std.proofs.lemmas.Option.{same_Some, none-some}
 use Rattle.retry.specs.Schedule.{renewal}
 use Rattle.retry.specs.Run.{Client, Event, Starts, Ticks, Asks, Takes, over, step, client, Fits, Lawful}
 use Rattle.retry.specs.Pacing.{starts, asks, takes, tarries, Never, AsksBy, StillUses, PausesEnd, AsksInTime}
-use Rattle.retry.proofs.Steps.{some_same, some-none, lasts-within, requested-none}
+use Rattle.retry.proofs.Steps.{lasts-within, requested-none}
 
 -- without an address the next request is never further off than the longest pause
 Soon : Client → Type 0
@@ -20,7 +21,7 @@ soon_step c Ticks h =
     (λ e g. omega arith)
     (λ e g. omega (arith, h g))
 soon_step c Asks h = λ g. omega (arith, (requested-none c.schedule c.clock c.uses g).0, (lasts-within c.schedule.pause).1)
-soon_step c (Takes asked term) h = λ g. absurd (some-none (asked + term) (sym g))
+soon_step c (Takes asked term) h = λ g. absurd (none-some (asked + term) (sym g))
 
 soon : (es : List Event) → Soon (client es)
 unfolding client Soon
@@ -65,8 +66,8 @@ record Ahead (until : ℕ) (c : Client) : Type 0 where
   pub next : c.schedule.next ≤ until
 
 over-past : (now until : ℕ) (o : Option ℕ) → o ≡ Some until → over now o ≡ true → until < now
-over-past now until None e t = absurd (some-none until e)
-over-past now until (Some v) e t = omega (arith, some_same v until e, ltb-true v now t)
+over-past now until None e t = absurd (none-some until e)
+over-past now until (Some v) e t = omega (arith, same_Some v until e, ltb-true v now t)
 
 ahead-ticks : (until : ℕ) (c : Client) → tarries c Ticks ≡ false → Ahead until c → Ahead until (step Ticks c)
 ahead-ticks until c t h =
@@ -84,7 +85,7 @@ module _ (until : ℕ) (before : List Event) where
   more Ticks es f s t (inr h) = inr h
   more Asks es f s t (inl h) = inr (inl h.clock)
   more Asks es f s t (inr h) = inr (inr h)
-  more (Takes asked term) es f s t (inl h) = absurd (some-none asked (sym h.waits ∙ f.0))
+  more (Takes asked term) es f s t (inl h) = absurd (none-some asked (sym h.waits ∙ f.0))
   more (Takes asked term) es f s t (inr h) = inr h
 
   ahead : (between : List Event) → Ahead until (client before) → Lawful (between ++ before) → Never starts before between → Never tarries before between →

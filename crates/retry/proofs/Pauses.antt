@@ -3,13 +3,14 @@
 use Rattle.std.proofs.Common.{◌≡◌, ℕ, suc, ◌+◌, ◌*◌, ◌^◌, ◌<◌, ◌≤◌, min, true, false, ◌||◌, leb, List, [], ◌∷◌, ◌++◌, Some, None, Option, sym, refl, ap, ◌∙◌, subst, inl, inr, add_assoc, arith}
 use native.Mathlib.Nat.{pow-succ', min-eq_left, min-eq_right}
 use Rattle.std.proofs.lemmas.Bool.{cond_both, leb-true, leb-false, le-leb, both_ways, cases_lt}
+use Rattle.std.proofs.lemmas.Option.{none-some}
 use Rattle.retry.specs.declared.schedule.Pause.{Pause}
 use Rattle.retry.specs.declared.schedule.Pause.TheVariants.{Four, Eight, Sixteen, ThirtyTwo, SixtyFour}
 use Rattle.retry.specs.declared.schedule.Schedule.{Schedule}
 use Rattle.retry.specs.Schedule.{lasts, longer, starting}
 use Rattle.retry.specs.Run.{Client, Event, Starts, Ticks, Asks, Takes, over, step, client, Fits, Lawful}
 use Rattle.retry.specs.Pacing.{starts, asks, takes, loses, tarries, Never, Begins, requests, pause_at, elapsed, DueAtOnce, KthPause, Timetable}
-use Rattle.retry.proofs.Steps.{some-none, requested-none, clock-step}
+use Rattle.retry.proofs.Steps.{requested-none, clock-step}
 
 -- each pause is twice the one before, up to 64
 longer-lasts : (p : Pause) → lasts (longer p) ≡ min (2 * lasts p) 64
@@ -34,7 +35,7 @@ pause_more p k e = longer-lasts p ∙ ap (λ n. min (2 * n) 64) e ∙ sym (ap (�
 
 over_none : (now : ℕ) (o : Option ℕ) → o ≡ None → over now o ≡ true → ⊥
 over_none now None e t = both_ways false refl t
-over_none now (Some u) e t = some-none u (sym e)
+over_none now (Some u) e t = none-some u (sym e)
 
 -- to a client without an address a tick is a tick
 ticks-none : (c : Client) (P : Client → Type 0) → c.uses ≡ None → P (record { clock = c.clock + 1; uses = c.uses; waits = c.waits; schedule = c.schedule }) → P (step Ticks c)

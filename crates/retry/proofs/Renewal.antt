@@ -3,10 +3,11 @@
 use Rattle.std.proofs.Common.{◌≡◌, ℕ, ◌+◌, ◌-◌, ◌*◌, ◌/◌, ◌≤◌, true, false, ◌&&◌, leb, List, [], ◌∷◌, ◌++◌, Some, sym, refl, ap, ◌∙◌, inl, inr, arith}
 use native.Mathlib.Nat.{le-max_left, le-max_right, max-le}
 use Rattle.std.proofs.lemmas.Bool.{cond_both, le-leb, lt-leb, both_ways, cases_lt, and_from, and_left, and_right}
+use Rattle.std.proofs.lemmas.Option.{same_Some, none-some}
 use Rattle.retry.specs.Schedule.{renewal}
 use Rattle.retry.specs.Run.{Client, Event, Starts, Ticks, Asks, Takes, over, step, client, Fits, Lawful}
 use Rattle.retry.specs.Pacing.{starts, asks, Never, Halfway}
-use Rattle.retry.proofs.Steps.{some_same, some-none, requested-some}
+use Rattle.retry.proofs.Steps.{requested-some}
 
 half_past : (q now left : ℕ) → q ≤ now → leb (q + renewal left) now ≡ (leb 60 (now - q) && leb left (2 * (now - q)))
 half_past q now left l =
@@ -36,14 +37,14 @@ last_step : (q : ℕ) (c : Client) (e : Event) → Fits e c → starts c e ≡ f
 last_step q c (Starts t) f s a h = absurd (both_ways true s refl)
 last_step q c Ticks f s a h =
     cond_both (over (c.clock + 1) c.uses) _ _ (λ (x : Client). Last q x)
-    (λ e. record { clock = omega (arith, h.clock); waits = h.waits; next = λ u g. absurd (some-none u g) })
+    (λ e. record { clock = omega (arith, h.clock); waits = h.waits; next = λ u g. absurd (none-some u g) })
     (λ e. record { clock = omega (arith, h.clock); waits = h.waits; next = h.next })
 last_step q c Asks f s a h = absurd (both_ways true a refl)
 last_step q c (Takes asked term) f s a h =
     record {
       clock = h.clock;
-      waits = λ b e. absurd (some-none b e);
-      next = λ u g. taken q asked term u (h.waits asked f.0) (some_same (asked + term) u g);
+      waits = λ b e. absurd (none-some b e);
+      next = λ u g. taken q asked term u (h.waits asked f.0) (same_Some (asked + term) u g);
     }
 
 last : (before between : List Event) → Lawful (between ++ (Asks ∷ before)) → Never starts (Asks ∷ before) between → Never asks (Asks ∷ before) between →
@@ -52,7 +53,7 @@ unfolding Never Lawful client
 last before [] f s a =
     record {
       clock = omega arith;
-      waits = λ b e. sym (some_same (client before).clock b e);
+      waits = λ b e. sym (same_Some (client before).clock b e);
       next = λ u g. requested-some (client before).schedule (client before).clock u (client before).uses g;
     }
 last before (e ∷ es) f s a = last_step (client before).clock (client (es ++ (Asks ∷ before))) e f.0 s.0 a.0 (last before es f.1 s.1 a.1)

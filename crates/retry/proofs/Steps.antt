@@ -3,18 +3,13 @@
 use Rattle.std.proofs.Common.{◌≡◌, ℕ, ◌+◌, ◌-◌, ◌/◌, ◌≤◌, true, false, Some, None, Option, sym, refl, ap, arith}
 use native.Mathlib.Nat.{le-max_right}
 use Rattle.std.proofs.lemmas.Bool.{cond_both, both_ways}
+use Rattle.std.proofs.lemmas.Option.{same_Some, none-some}
 use Rattle.retry.specs.declared.schedule.Pause.{Pause}
 use Rattle.retry.specs.declared.schedule.Pause.TheVariants.{Four, Eight, Sixteen, ThirtyTwo, SixtyFour}
 use Rattle.retry.specs.declared.schedule.Schedule.{Schedule}
 use Rattle.retry.specs.Schedule.{lasts, longer, renewal, requested}
 use Rattle.retry.specs.Run.{Client, Event, Starts, Ticks, Asks, Takes, over, step}
 use Rattle.retry.specs.Pacing.{starts}
-
-pub some_same : (a b : ℕ) → ◌≡◌ {A = Option ℕ} (Some a) (Some b) → a ≡ b
-some_same a b e = cc
-
-pub some-none : (a : ℕ) → ◌≡◌ {A = Option ℕ} None (Some a) → ⊥
-some-none a e = let z : ◌≡◌ {A = ℕ} 0 1 = cc in omega arith
 
 pub lasts-within : (p : Pause) → (4 ≤ lasts p) × (lasts p ≤ 64)
 lasts-within Four = (omega arith, omega arith)
@@ -29,11 +24,11 @@ renewal-least left = le-max_right ((left + 1) / 2) 60
 pub requested-none : (s : Schedule) (now : ℕ) (o : Option ℕ) → o ≡ None →
     ((requested s now o).next ≡ now + lasts s.pause) × ((requested s now o).pause ≡ longer s.pause)
 requested-none s now None e = (refl, refl)
-requested-none s now (Some u) e = absurd (some-none u (sym e))
+requested-none s now (Some u) e = absurd (none-some u (sym e))
 
 pub requested-some : (s : Schedule) (now u : ℕ) (o : Option ℕ) → o ≡ Some u → (requested s now o).next ≡ now + renewal (u - now)
-requested-some s now u None e = absurd (some-none u e)
-requested-some s now u (Some v) e = ap (λ n. now + renewal (n - now)) (some_same v u e)
+requested-some s now u None e = absurd (none-some u e)
+requested-some s now u (Some v) e = ap (λ n. now + renewal (n - now)) (same_Some v u e)
 
 -- a clock goes on but at a start
 pub clock-step : (c : Client) (e : Event) → starts c e ≡ false → c.clock ≤ (step e c).clock

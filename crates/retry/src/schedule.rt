@@ -1,4 +1,4 @@
-ghost use Rattle.std.specs.Prelude.{◌≡◌};
+ghost use Rattle.std.specs.Prelude.{◌≡◌, None};
 ghost use Rattle.retry.specs.Schedule.{lasts, longer as lengthened, renewal, starting, requested, renewing, is_due};
 
 use lease::Clock;
@@ -6,27 +6,21 @@ use lease::Clock;
 // So long a client lets its server alone after each request while it uses an address.
 const LEAST_RENEWAL: u64 = 60;
 
-// How long a client without an address waits after a request before it asks again, in ticks.
-#[derive(Clone, Copy)]
+// How long a client without an address waits after a request before it asks again: the ticks of each pause are its number.
+#[derive(Clone, Copy, PartialEq, Eq, Debug)]
 pub enum Pause {
-    Four,
-    Eight,
-    Sixteen,
-    ThirtyTwo,
-    SixtyFour,
+    Four = 4,
+    Eight = 8,
+    Sixteen = 16,
+    ThirtyTwo = 32,
+    SixtyFour = 64,
 }
 
 impl Pause {
     pub fn ticks(self) -> u64
         ensures { result ≡ lasts self }
     {
-        match self {
-            Pause::Four => 4,
-            Pause::Eight => 8,
-            Pause::Sixteen => 16,
-            Pause::ThirtyTwo => 32,
-            Pause::SixtyFour => 64,
-        }
+        self as u64
     }
 
     // The pause after this one.
@@ -37,14 +31,13 @@ impl Pause {
             Pause::Four => Pause::Eight,
             Pause::Eight => Pause::Sixteen,
             Pause::Sixteen => Pause::ThirtyTwo,
-            Pause::ThirtyTwo => Pause::SixtyFour,
-            Pause::SixtyFour => Pause::SixtyFour,
+            Pause::ThirtyTwo | Pause::SixtyFour => Pause::SixtyFour,
         }
     }
 }
 
 // The tick from which a client's next request is due, and the pause after its next request without an address.
-#[derive(Clone, Copy)]
+#[derive(Clone, Copy, PartialEq, Eq, Debug)]
 pub struct Schedule {
     next: u64,
     pause: Pause,
@@ -74,30 +67,41 @@ impl Schedule {
         self.next <= clock.ticks()
     }
 
+    // So many ticks of use are left at this clock: the renewal follows after half of them.
+    fn renewing(self, clock: Clock, left: u64) -> Schedule
+        ensures { result ≡ renewing self clock.ticks left }
+    {
+        Schedule {
+            next: clock.ticks() + renewal_after(left),
+            ..self
+        }
+    }
+
+    // No address is in use at this clock: the next request follows after the pause.
+    fn pausing(self, clock: Clock) -> Schedule
+        ensures { result ≡ requested self clock.ticks None }
+    {
+        Schedule {
+            next: clock.ticks() + self.pause.ticks(),
+            pause: self.pause.longer(),
+        }
+    }
+
     // A request is sent; `until` is the last tick of the address in use, if there is one.
     pub fn asked(self, clock: Clock, until: Option<u64>) -> Schedule
         ensures { result ≡ requested self clock.ticks until }
     {
-        match until {
-            None => Schedule {
-                next: clock.ticks() + self.pause.ticks(),
-                pause: self.pause.longer(),
-            },
-            Some(last) => Schedule {
-                next: clock.ticks() + renewal_after(last.saturating_sub(clock.ticks())),
-                pause: self.pause,
-            },
-        }
+        until.map_or_else(
+            || self.pausing(clock),
+            |last| self.renewing(clock, last.saturating_sub(clock.ticks())),
+        )
     }
 
     // The grant for the request sent at `asked` is taken.
     pub fn granted(self, asked: Clock, term: u32) -> Schedule
         ensures { result ≡ renewing self asked.ticks term }
     {
-        Schedule {
-            next: asked.ticks() + renewal_after(u64::from(term)),
-            pause: self.pause,
-        }
+        self.renewing(asked, u64::from(term))
     }
 
     // The address in use expired: the client asks at once, and its pauses begin anew.

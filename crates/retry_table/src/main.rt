@@ -7,6 +7,7 @@ ghost use Rattle.retry.specs.Schedule.{is_due, requested};
 use lease::Clock;
 use retry::Schedule;
 use std::io;
+use std::ops::RangeInclusive;
 
 const TERMS: [u32; 8] = [60, 61, 100, 119, 120, 121, 600, 86_400];
 
@@ -14,29 +15,20 @@ const TERMS: [u32; 8] = [60, 61, 100, 119, 120, 121, 600, 86_400];
 fn ask_if_due(schedule: Schedule, clock: Clock, until: Option<u64>) -> Option<Schedule>
     ensures { result ≡ (if is_due schedule clock.ticks then Some (requested schedule clock.ticks until) else None) }
 {
-    if schedule.due(clock) {
-        Some(schedule.asked(clock, until))
-    } else {
-        None
-    }
+    schedule.due(clock).then(|| schedule.asked(clock, until))
 }
 
-// Prints the ticks from `first` to `last` at which the client asks.
+// Prints at which of these ticks the client asks.
 fn print_requests(
     rt: &HostRuntime,
-    schedule: Schedule,
-    first: u64,
-    last: u64,
+    mut schedule: Schedule,
+    ticks: RangeInclusive<u64>,
     until: Option<u64>,
 ) -> io::Result<()> {
-    let mut schedule = schedule;
-    for tick in first..=last {
-        let Ok(clock) = Clock::at(tick) else {
-            break;
-        };
+    for clock in ticks.filter_map(|tick| Clock::try_from(tick).ok()) {
         if let Some(asked) = ask_if_due(schedule, clock, until) {
             schedule = asked;
-            print!(rt; " {tick}")?;
+            print!(rt; " {}", clock.ticks())?;
         }
     }
     Ok(())
@@ -50,10 +42,10 @@ fn print_term(rt: &HostRuntime, term: u32) -> io::Result<()> {
         .granted(start, term);
     let until = u64::from(term);
     print!(rt; "term {term}: renews at")?;
-    print_requests(rt, lent, 0, until, Some(until))?;
-    if let Ok(over) = Clock::at(until + 1) {
+    print_requests(rt, lent, 0..=until, Some(until))?;
+    if let Ok(over) = Clock::try_from(until + 1) {
         print!(rt; ", expired, asks at")?;
-        print_requests(rt, lent.expired(over), until + 1, until + 20, None)?;
+        print_requests(rt, lent.expired(over), until + 1..=until + 20, None)?;
     }
     println!(rt; "")
 }
@@ -63,6 +55,6 @@ fn main(rt: HostRuntime) -> io::Result<()> {
         print_term(&rt, term)?;
     }
     print!(rt; "no address: asks at")?;
-    print_requests(&rt, Schedule::start(Clock::zero()), 0, 400, None)?;
+    print_requests(&rt, Schedule::start(Clock::zero()), 0..=400, None)?;
     println!(rt; "")
 }

@@ -1,3 +1,4 @@
 pub mod Script
 pub mod Place
 pub mod Laws
+pub mod Words

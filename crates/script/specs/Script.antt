@@ -1,6 +1,6 @@
 -- A script: parts of who and message, how they are written as bytes, and what it means that bytes are read or have a fault.
 -- Assumes nothing.
-use Rattle.std.specs.Prelude.{◌≡◌, ℕ, ◌+◌, ◌<◌, ◌≤◌, ◌⊎◌, List, [], ◌∷◌, ◌++◌, length, take, drop, slice_index, slice_index_or}
+use Rattle.std.specs.Prelude.{◌≡◌, ℕ, ◌+◌, ◌<◌, ◌≤◌, ◌⊎◌, List, [], ◌∷◌, ◌++◌, length, slice_index}
 use Rattle.script.specs.declared.entry.Entry.{Entry}
 use Rattle.script.specs.declared.entry.Unread.{Unread}
 use Rattle.script.specs.declared.entry.Unread.TheVariants.{Fault, NoMemory}
@@ -27,13 +27,9 @@ abbrev pub Known : List Part → Type 0
 Known [] = Unit {0}
 Known (p ∷ ps) = Sound p × Known ps
 
--- what an entry names in a script
-abbrev pub part_of : List ℕ → Entry → Part
-part_of bytes e = record { who = e.who; message = take e.len (drop e.at bytes) }
-
--- each message lies within the script
-abbrev pub Within : List ℕ → List Entry → Type 0
-Within bytes entries = (i : ℕ) (d : Entry) → i < length entries → (slice_index_or entries i d).at + (slice_index_or entries i d).len ≤ length bytes
+-- what an entry says
+abbrev pub part_of : Entry → Part
+part_of e = record { who = e.who; message = e.message.now }
 
 -- the bytes are these parts and nothing else
 pub record Reads (bytes : List ℕ) (parts : List Part) : Type 0 where

@@ -2,22 +2,16 @@
 ghost use Rattle.script.specs.Laws.{NeverBoth, OneFault, OneReading};
 
 // Two lists of entries that are written as the same bytes are equal.
-pub fn one_reading() -> u8
+pub fn one_reading()
     ensures { OneReading }
-{
-    0
-}
+{}
 
 // No script both has entries and a fault.
-pub fn never_both() -> u8
+pub fn never_both()
     ensures { NeverBoth }
-{
-    0
-}
+{}
 
 // A script has its fault at one byte.
-pub fn one_fault() -> u8
+pub fn one_fault()
     ensures { OneFault }
-{
-    0
-}
+{}

@@ -1,17 +1,10 @@
--- Which stamps a list has, by index and in itself.
+-- Which stamps a list has.
 -- Assumes nothing.
-use Rattle.std.proofs.Common.{◌≡◌, ℕ, zero, suc, ◌+◌, ◌≤◌, Bool, true, false, ◌&&◌, ◌||◌, eqb, List, [], ◌∷◌, ◌++◌, reverse, length, get_or, take, sym, refl, ap, ◌∙◌, inl, inr, arith}
-use mathlib.Core.List.{reverse-append}
-use Rattle.std.proofs.lemmas.List.{take_more, take_all}
+use Rattle.std.proofs.Common.{◌≡◌, ℕ, true, false, ◌&&◌, ◌||◌, eqb, List, [], ◌∷◌, ◌++◌, sym, refl, ap, ◌∙◌, inl, inr}
 use Rattle.std.proofs.lemmas.Bool.{and_parts, and_from, eqb-true, eq-eqb, or_cases, both_ways}
 use Rattle.seen.specs.declared.stamp.Stamp.{Stamp}
-use Rattle.seen.specs.Stamp.{same, member, bucket_of}
-use Rattle.seen.specs.Chain.{blank}
+use Rattle.seen.specs.Stamp.{same, member}
 use Rattle.seen.specs.Laws.{In, MembersAreIn}
-use Rattle.seen.proofs.Chains.{held}
-
-pub reverse_push_lem : {A : Type 0} (xs : List A) (x : A) → reverse (xs ++ x ∷ []) ≡ x ∷ reverse xs
-reverse_push_lem xs x = reverse-append xs (x ∷ [])
 
 abbrev stamp : (client nonce address : ℕ) → Stamp
 stamp c n a = record { client = c; nonce = n; address = a }
@@ -30,24 +23,7 @@ same_self x =
     and_from (eqb x.client x.client) (eqb x.nonce x.nonce && eqb x.address x.address) (eq-eqb x.client x.client refl)
     (and_from (eqb x.nonce x.nonce) (eqb x.address x.address) (eq-eqb x.nonce x.nonce refl) (eq-eqb x.address x.address refl))
 
-pub same_bucket : (x y : Stamp) → same x y ≡ true → bucket_of y ≡ bucket_of x
-same_bucket x y e = ap (λ (s : Stamp). bucket_of s) (sym (same-is x y e))
-
-member_front : (x : Stamp) (xs : List Stamp) (n : ℕ) → n ≤ length xs → member x (reverse (take n xs)) ≡ held (λ j. same x (get_or xs j blank)) n
-unfolding held member
-member_front x xs zero h = refl
-member_front x xs (suc n) h =
-    let one : suc n ≡ n + 1 = omega arith in
-    ap (λ (m : ℕ). member x (reverse (take m xs))) one
-    ∙ ap (λ (ys : List Stamp). member x (reverse ys)) (take_more xs n blank (omega arith))
-    ∙ ap (λ (ys : List Stamp). member x ys) (reverse_push_lem (take n xs) (get_or xs n blank))
-    ∙ ap (λ (q : Bool). same x (get_or xs n blank) || q) (member_front x xs n (omega arith))
-
-pub member-held : (x : Stamp) (xs : List Stamp) → member x (reverse xs) ≡ held (λ j. same x (get_or xs j blank)) (length xs)
-member-held x xs = ap (λ (ys : List Stamp). member x (reverse ys)) (sym (take_all (length xs) xs (omega arith))) ∙ member_front x xs (length xs) (omega arith)
-
 found : (x : Stamp) (xs : List Stamp) → member x xs ≡ true → In x xs
-unfolding member
 found x [] e = absurd (both_ways false refl e)
 found x (y ∷ ys) e =
     elim (or_cases (same x y) (member x ys) e) [
@@ -56,7 +32,6 @@ found x (y ∷ ys) e =
     ]
 
 front : (x : Stamp) (ys zs : List Stamp) → member x (ys ++ x ∷ zs) ≡ true
-unfolding member
 front x [] zs = elim (same x x) as (λ v. same x x ≡ v → (v || member x zs) ≡ true) [ true ↦ λ e. refl | false ↦ λ e. absurd (both_ways (same x x) e (same_self x)) ] refl
 front x (y ∷ ys) zs = elim (same x y) as (λ v. (v || member x (ys ++ x ∷ zs)) ≡ true) [ true ↦ refl | false ↦ front x ys zs ]
 

@@ -1,4 +1,3 @@
 pub mod Stamp
-pub mod Chain
 pub mod Seen
 pub mod Laws

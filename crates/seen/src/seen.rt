@@ -1,19 +1,14 @@
-ghost use Rattle.std.specs.Prelude.{◌≡◌, vec_len};
-ghost use Rattle.seen.specs.Chain.{Headed, Linked};
-ghost use Rattle.seen.specs.Stamp.{width};
+ghost use Rattle.seen.specs.Stamp.{HasMembers};
 
 use crate::stamp::Stamp;
+use std::collections::HashSet;
 
-// Stamps in the order they came, chained by bucket. A pointer is an index and one, and 0 is none.
+// Stamps that came. Contracts speak of the list, and the program asks the members alone: a ghost field can state a fact, but can't keep a list.
 #[derive(Drop)]
 pub struct Seen {
+    // each as often as it came, in their order
     pub(crate) stamps: Vec<Stamp>,
-    // from each stamp to the one before it in its bucket
-    pub(crate) links: Vec<usize>,
-    // to the newest stamp of each bucket
-    pub(crate) heads: Vec<usize>,
-    ghost paired: { vec_len links ≡ vec_len stamps },
-    ghost wide: { vec_len heads ≡ width },
-    ghost linked: { Linked stamps.items links.items },
-    ghost headed: { Headed stamps.items heads.items },
+    // each once, to be asked
+    pub(crate) members: HashSet<Stamp>,
+    ghost same: { HasMembers stamps.items members },
 }

@@ -7,7 +7,8 @@ use Rattle.lease.specs.declared.lease.Lease.{Lease}
 use Rattle.journal.specs.Place.{height}
 use Rattle.journal.specs.Table.{Table, Filed, added, empty, keeping, kept_of, set}
 use Rattle.journal.specs.Row.{Row, first, table_of, whole}
-use Rattle.journal.specs.Device.{Side, Device, Cursor, cursor, high, leases, other}
+use Rattle.journal.specs.declared.state.Side.{Side}
+use Rattle.journal.specs.Device.{Device, Cursor, cursor, high, leases, other}
 use Rattle.journal.specs.Append.{Plan, Write, in_other, in_row, perform, plan, put, writes}
 use Rattle.journal.specs.Crash.{Cut, Damaged, Untouched, cut_at, done, lands}
 use Rattle.journal.specs.Laws.{Begun, Ready, Settled, Sound}

@@ -1,9 +1,7 @@
 -- The server goes on with a run of the lending core.
 -- Assumes nothing.
-use Rattle.std.proofs.Common.{◌≡◌, ℕ, suc, ◌+◌, ◌^◌, Bool, true, false, ◌||◌, leb, List, [], ◌∷◌, ◌++◌, Some, None, Option, sym, refl, ap, ◌∙◌, subst, inl, append_assoc, arith}
+use Rattle.std.proofs.Common.{◌≡◌, ℕ, suc, ◌+◌, ◌^◌, Bool, true, false, ◌||◌, leb, List, [], ◌∷◌, ◌++◌, Some, None, Option, sym, refl, ap, ◌∙◌, subst, inl, append_assoc, arith, Ok, Err}
 use Rattle.std.proofs.lemmas.Bool.{cond-false, lt-leb}
-use Rattle.lease.specs.declared.answer.Answer as lent
-use Rattle.lease.specs.declared.answer.Answer.TheVariants.{Unheard, Granted, Refused}
 use Rattle.lease.specs.declared.fault.Fault.TheVariants.{CountExhausted}
 use Rattle.lease.specs.declared.message.Grant as given
 use Rattle.lease.specs.declared.message.Request as asked
@@ -23,16 +21,16 @@ use Rattle.server.specs.Follows.{Begins, Follows, GoesOn, NoTwo, RunGoesOn, RunI
 use Rattle.server.proofs.Refining.{cut-refines-all, events-of_runs, pooled-none, settling-stands, step-refines, tick_stands, ticks-on}
 
 -- what was sent stays so
-still_sent : (i : ℕ) (m : world.Message) (a : lent.Answer) (ms : List world.Message) → world.sent i ms ≡ Some m → (j : ℕ) × (world.sent j (run.replies a ms) ≡ Some m)
+still_sent : (i : ℕ) (m : world.Message) (a : run.Answer) (ms : List world.Message) → world.sent i ms ≡ Some m → (j : ℕ) × (world.sent j (run.replies a ms) ≡ Some m)
 unfolding world.sent
-still_sent i m Unheard ms e = (i, e)
-still_sent i m (Granted g) ms e = (suc i, e)
-still_sent i m (Refused f) ms e = (i, e)
+still_sent i m (Ok None) ms e = (i, e)
+still_sent i m (Ok (Some g)) ms e = (suc i, e)
+still_sent i m (Err f) ms e = (i, e)
 
-pub replies-on : (a : lent.Answer) (gs : List given.Grant) (ms : List world.Message) → sent_on (grant_by a ++ gs) ms ≡ sent_on gs (run.replies a ms)
-replies-on Unheard gs ms = refl
-replies-on (Granted g) gs ms = refl
-replies-on (Refused f) gs ms = refl
+pub replies-on : (a : run.Answer) (gs : List given.Grant) (ms : List world.Message) → sent_on (grant_by a ++ gs) ms ≡ sent_on gs (run.replies a ms)
+replies-on (Ok None) gs ms = refl
+replies-on (Ok (Some g)) gs ms = refl
+replies-on (Err f) gs ms = refl
 
 no_two : (k : model.Settings) (es : List run.Event) → NoTwo k es
 no_two k es = never_two k es

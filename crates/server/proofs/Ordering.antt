@@ -1,31 +1,24 @@
 -- What is made durable is what was written, and precedes the grant.
 -- Assumes nothing.
-use Rattle.std.proofs.Common.{◌≡◌, ℕ, suc, ◌+◌, ◌^◌, leb, List, [], ◌∷◌, ◌++◌, length, Some, None, Ok, Err, Option, refl, ap, ◌∙◌, subst, inl, inr, arith}
+use Rattle.std.proofs.Common.{◌≡◌, ℕ, suc, ◌+◌, ◌^◌, leb, List, [], ◌∷◌, ◌++◌, length, Some, None, Ok, Err, Option, refl, ap, ◌∙◌, inl, inr, arith}
 use Rattle.std.proofs.lemmas.Bool.{cond_both}
-use Rattle.lease.specs.declared.answer.Answer as lent
-use Rattle.lease.specs.declared.answer.Answer.TheVariants.{Unheard, Granted, Refused}
 use Rattle.lease.specs.declared.fault.Fault.TheVariants.{BadSettings, CountExhausted}
 use Rattle.lease.specs.declared.lease.Lease.{Lease}
 use Rattle.lease.specs.declared.message.Grant as given
 use Rattle.lease.specs.declared.message.Request as asked
 use Rattle.lease.specs.Settings as model
 use Rattle.lease.specs.Settings.{valid}
+use Rattle.lease.specs.Run as run
 use Rattle.lease.specs.Run.{answer, server_passes}
 use Rattle.wire.specs.declared.message.Message.TheVariants.{Request, Grant, Settings, Tick, Crash, Restart, OwnNumber, Nonce, InUse, NoAddress, Fault}
 use Rattle.wire.specs.Decode.{Answer}
-use Rattle.journal.specs.Device.{Side, Row0, Row1}
+use Rattle.journal.specs.declared.state.Side.{Side}
+use Rattle.journal.specs.declared.state.Side.TheVariants.{Row0, Row1}
 use Rattle.journal.specs.Append.{Plan, Write, exhausted, numbered, writes}
 use Rattle.journal.specs.Image.{index}
 use Rattle.server.specs.Server.{State, Step, answers, appends, comes_back, hears, lease_of, learns, planned, reads, refuses, replies, requested, rereads, settles, silently, tells, understood, with_server}
 use Rattle.server.specs.Refines.{grants_in}
-use Rattle.journal.specs.declared.journal.Journal.{Journal}
-use Rattle.journal.specs.Durable.{CutFile}
-use Rattle.server.specs.declared.effect.Reply.{Reply}
-use Rattle.server.specs.declared.effect.Reply.TheVariants as reply
-use Rattle.server.specs.declared.effect.Reply.TheVariants.{Nothing}
-use Rattle.server.specs.Reply.{effects_of}
-use Rattle.server.specs.Steps.{FiledBy}
-use Rattle.server.specs.Orderly.{FileBy, Grants, Orderly, StepsOrderly, persisted, up_from, written}
+use Rattle.server.specs.Orderly.{Grants, Orderly, StepsOrderly, persisted, up_from, written}
 
 next_place : (s : Side) (k : ℕ) → suc (index s k) ≡ index s (suc k)
 next_place Row0 k = refl
@@ -78,10 +71,10 @@ module _ (s : State) where
         lease = z.3;
       }
 
-  replied : (k : model.Settings) (a : lent.Answer) → s.settings ≡ Some k → Orderly s (replies k a s)
-  replied k Unheard e = still _ refl refl refl
-  replied k (Refused f) e = still _ refl refl refl
-  replied k (Granted g) e =
+  replied : (k : model.Settings) (a : run.Answer) → s.settings ≡ Some k → Orderly s (replies k a s)
+  replied k (Ok None) e = still _ refl refl refl
+  replied k (Err f) e = still _ refl refl refl
+  replied k (Ok (Some g)) e =
       cond_both (exhausted (planned k s)) (refuses CountExhausted s) (appends k g (planned k s) (lease_of k s g) s) (λ t. Orderly s t) (λ h. still (refuses CountExhausted s) refl refl refl) (λ h. inr (granted k g e))
 
   asked_for : (o : Option model.Settings) (r : asked.Request) → s.settings ≡ o → Orderly s (requested o r s)
@@ -122,23 +115,3 @@ module _ (s : State) where
 pub steps_orderly : StepsOrderly
 unfolding hears
 steps_orderly s bs = ordered s (understood bs s)
-
--- by what the step comes to
-pub file_by : (o : Option model.Settings) (r : Reply) (b a : Journal) (s : State) → s.settings ≡ o → FiledBy o r b a s → FileBy (effects_of r) b a s
-file_by o Nothing b a s e f = record { unwritten = λ z. f; cut = λ k g i n h z. absurd (let y : ◌≡◌ {A = ℕ} 0 1 = cc in omega arith) }
-file_by o (reply.Refused x) b a s e f = record { unwritten = λ z. f; cut = λ k g i n h z. absurd (let y : ◌≡◌ {A = ℕ} 0 1 = cc in omega arith) }
-file_by None (reply.Granted w q) b a s e f =
-    record { unwritten = λ z. absurd (let y : ◌≡◌ {A = ℕ} 0 1 = cc in omega arith); cut = λ k g i n h z. absurd (let y : ◌≡◌ {A = ℕ} 0 1 = cc in omega arith) }
-file_by (Some j) (reply.Granted w q) b a s e f =
-    record {
-      unwritten = λ z. absurd (let y : ◌≡◌ {A = ℕ} 0 1 = cc in omega arith);
-      cut = λ k g i n h z.
-          let kj : j ≡ k = cc in
-          let gq : q ≡ g = cc in
-          let wi : w.first ≡ i = cc in
-          let wn : w.count ≡ n = cc in
-          subst (λ (y : model.Settings). CutFile b a (planned y s) (lease_of y s g) (record { first = i; count = n })) kj
-          (subst (λ (y : given.Grant). CutFile b a (planned j s) (lease_of j s y) (record { first = i; count = n })) gq
-          (subst (λ (y : ℕ). CutFile b a (planned j s) (lease_of j s q) (record { first = i; count = y })) wn
-          (subst (λ (y : ℕ). CutFile b a (planned j s) (lease_of j s q) (record { first = y; count = w.count })) wi f)));
-    }

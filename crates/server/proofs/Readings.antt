@@ -12,13 +12,12 @@ use Rattle.lease.specs.Run.{restarts}
 use Rattle.lease.specs.Of.{settings_of}
 use Rattle.lease.specs.Stands.{server_of, with_table, KeeperLoaded, KeeperRestarted}
 use Rattle.journal.specs.declared.journal.Journal.{Journal}
-use Rattle.journal.specs.declared.state.Found.{Found}
-use Rattle.journal.specs.declared.state.Found.TheVariants as found
-use Rattle.journal.specs.Device.{Device, chosen, cursor, leases}
-use Rattle.journal.specs.Image.{Recovered, choice_from, device_of}
+use Rattle.journal.specs.Device.{Device, Choice, New, Lost, Found, chosen, cursor, leases}
+use Rattle.journal.specs.Image.{device_of, found_in}
+use Rattle.journal.specs.Memory.{HasRead, choice_of, found_of}
+use Rattle.journal.proofs.Memories.{found_chosen}
 use Rattle.journal.proofs.Runs.{filed-at}
-use Rattle.server.specs.declared.effect.Reply.{Reply}
-use Rattle.server.specs.Reply.{effects_of}
+use Rattle.server.specs.Reply.{Reply, effects_of}
 use Rattle.server.specs.Server.{is_lost, pooled, reads, rereads, tells}
 use Rattle.server.specs.Steps.{Comes, FiledBy, missing}
 use Rattle.server.proofs.States.{same-state, state_by}
@@ -37,19 +36,19 @@ loaded-pooled n d xs e h =
       | inr l ↦ cond-false (ltb a n) (at_home a (get_or xs a None)) None (le-ltb a n l) ∙ sym (cond-false (ltb a n) (leases 4096 d a) None (le-ltb a n l))
     ])
 
-lost_as : (f : Found) (a : ℕ) → missing f ≡ is_lost (choice_from f a)
-lost_as found.New a = refl
-lost_as found.Lost a = refl
-lost_as found.Table a = refl
+lost_as : (c : Choice) → missing (found_in c) ≡ is_lost c
+lost_as New = refl
+lost_as Lost = refl
+lost_as (Found s) = refl
 
 module _ (k l m : Keeper) (before after : Journal) (xs : List (Option Lease)) (clock : ℕ) (lost : Bool) (r : Reply) where
   abbrev d : Device
   d = device_of (vec_items before.device)
 
   pub has_read : length xs ≡ k.settings.addresses → vec_items after.device ≡ vec_items before.device →
-      Recovered (device_of (vec_items after.device)) after.rows after.active after.highest after.found →
+      HasRead after →
       ((a : ℕ) → a < length xs → get_or xs a None ≡ leases 4096 (device_of (vec_items after.device)) a) →
-      FiledBy (Some (settings_of k.settings)) r before after (state_by k before) → KeeperLoaded xs k l → lost ≡ missing after.found → KeeperRestarted clock lost l m → effects_of r ≡ tells m.silent →
+      FiledBy (Some (settings_of k.settings)) r before after (state_by k before) → KeeperLoaded xs k l → lost ≡ missing (found_of after) → KeeperRestarted clock lost l m → effects_of r ≡ tells m.silent →
       Comes before (state_by k before) (reads (settings_of k.settings) clock (state_by k before)) r after (state_by m after)
   has_read size same rec table file load miss up says =
       let s : model.Settings = settings_of k.settings in
@@ -57,7 +56,7 @@ module _ (k l m : Keeper) (before after : Journal) (xs : List (Option Lease)) (c
       let p : loaded k.settings.addresses xs ≡ pooled s.addresses d = loaded-pooled s.addresses d xs size t in
       let q : server_of l ≡ with_table (server_of k) (pooled s.addresses d) = load.1 ∙ ap (λ (u : Table). with_table (server_of k) u) p in
       let e : lost ≡ is_lost (chosen 4096 d) =
-      miss ∙ lost_as after.found after.active ∙ ap is_lost rec.choice ∙ ap (λ (bs : List (List ℕ)). is_lost (chosen 4096 (device_of bs))) same in
+      miss ∙ ap missing (found_chosen after) ∙ lost_as (choice_of after) ∙ ap is_lost rec.choice ∙ ap (λ (bs : List (List ℕ)). is_lost (chosen 4096 (device_of bs))) same in
       let z : settings_of l.settings ≡ s = ap settings_of load.0 in
       let v : server_of m ≡ rereads s clock d (server_of k) =
       up.1 ∙ ap (λ (y : model.Settings). restarts y clock lost (server_of l)) z ∙ ap (λ (y : world.Server). restarts s clock lost y) q

@@ -3,8 +3,6 @@
 use Rattle.std.proofs.Common.{◌≡◌, ℕ, ◌+◌, ◌^◌, ◌<◌, ◌≤◌, Bool, true, false, cond, not, ◌&&◌, ◌||◌, eqb, ltb, leb, [], ◌∷◌, ◌++◌, length, Some, None, Ok, Err, Option, sym, refl, ap, ◌∙◌, subst, inl, inr, arith}
 use mathlib.Core.Path.{fun_ext}
 use Rattle.std.proofs.lemmas.Bool.{both_ways, cases_Bool, cases_lt, cond_both, cond-false, cond-true, le-leb, le-ltb, lt-ltb, ne_eqb, or_cases}
-use Rattle.lease.specs.declared.answer.Answer as lent
-use Rattle.lease.specs.declared.answer.Answer.TheVariants.{Unheard, Granted, Refused}
 use Rattle.lease.specs.declared.fault.Fault.TheVariants.{CountExhausted}
 use Rattle.lease.specs.declared.lease.Lease.{Lease}
 use Rattle.lease.specs.declared.message.Grant as given
@@ -236,9 +234,9 @@ module _ (k : model.Settings) (s : State) (st : Stands k s) where
       subst (λ (o : Option model.Settings). Refines k s (comes_back o clock s).state (grants_in (comes_back o clock s).effects) (Rising clock)) (sym st.settled) (read-refines k s st.few st.sound st.lost clock)
 
   -- A REQUEST
-  module _ (r : asked.Request) (g : given.Grant) (ans : answer k v r ≡ Granted g) where
+  module _ (r : asked.Request) (g : given.Grant) (ans : answer k v r ≡ Ok (Some g)) where
     by : GrantedBy k v r g
-    by = subst (λ (x : lent.Answer). Meant k v r x) ans (meant k v r)
+    by = subst (λ (x : run.Answer). Meant k v r x) ans (meant k v r)
 
     abbrev x : Lease
     x = lease_of k s g
@@ -256,10 +254,10 @@ module _ (k : model.Settings) (s : State) (st : Stands k s) where
     with_table_lem t = server_at v.clock v.up v.silent t
 
     -- whatever of what is over it remembers, the lending core answers the same
-    same_answer : (t : Table) → ((a : ℕ) → a < k.addresses → kept_of v.clock (t a) ≡ kept_of v.clock (leases 4096 s.device a)) → answer k (with_table_lem t) r ≡ Granted g
+    same_answer : (t : Table) → ((a : ℕ) → a < k.addresses → kept_of v.clock (t a) ≡ kept_of v.clock (leases 4096 s.device a)) → answer k (with_table_lem t) r ≡ Ok (Some g)
     same_answer t h = answer-same k v.clock t v.table r v.up v.silent (λ u a l. h a l ∙ start.agrees a l) ∙ ans
 
-    answer-all : answer k m r ≡ Granted g
+    answer-all : answer k m r ≡ Ok (Some g)
     answer-all = same_answer m.table (λ a l. ap (kept_of v.clock) (in-pool k.addresses (leases 4096 s.device) a l))
 
     abbrev m' : world.Server
@@ -268,7 +266,7 @@ module _ (k : model.Settings) (s : State) (st : Stands k s) where
     forgot : occurs k (Forgets all) m ≡ m'
     forgot = cond-true v.up (with_table_lem (forgotten v.clock all m.table)) m by.up ∙ ap with_table_lem (forgotten-kept v.clock m.table)
 
-    answer-kept : answer k m' r ≡ Granted g
+    answer-kept : answer k m' r ≡ Ok (Some g)
     answer-kept = same_answer m'.table (λ a l. kept-twice v.clock (m.table a) ∙ ap (kept_of v.clock) (in-pool k.addresses (leases 4096 s.device) a l))
 
     not_lost : is_silent v.silent ≡ true → is_found (chosen 4096 (perform (writes p x) s.device)) ≡ false
@@ -280,11 +278,11 @@ module _ (k : model.Settings) (s : State) (st : Stands k s) where
         (append_stands 4096 k.addresses v.clock v.clock s.device s.cursor v.table x st.few (omega arith) start).0 in
         record { settled = st.settled; few = st.few; sound = z.sound; ready = λ u. z; lost = not_lost }
 
-    served : (w : world.Server) → answer k w r ≡ Granted g → occurs k (Hears r) w ≡ lends k g w
-    served w e = ap (λ (y : lent.Answer). serves k y w) e
+    served : (w : world.Server) → answer k w r ≡ Ok (Some g) → occurs k (Hears r) w ≡ lends k g w
+    served w e = ap (λ (y : run.Answer). serves k y w) e
 
-    sent-one : (w : world.Server) → answer k w r ≡ Granted g → g ∷ [] ≡ sent k (Hears r ∷ []) w
-    sent-one w e = sym (ap (λ (y : lent.Answer). grant_by y ++ []) e)
+    sent-one : (w : world.Server) → answer k w r ≡ Ok (Some g) → g ∷ [] ≡ sent k (Hears r ∷ []) w
+    sent-one w e = sym (ap (λ (y : run.Answer). grant_by y ++ []) e)
 
     abbrev whole : Device
     whole = cut_at (length (writes p x)) Untouched (writes p x) s.device
@@ -322,8 +320,8 @@ module _ (k : model.Settings) (s : State) (st : Stands k s) where
     abbrev down_with_lem : Table → world.Server
     down_with_lem t = server_at v.clock false v.silent t
 
-    crashed-at : (b : Bool) (t : Table) → answer k (with_table_lem t) r ≡ Granted g → occurs k (HearsAndCrashes r b) (with_table_lem t) ≡ down_with_lem (with? b x t)
-    crashed-at true t e = ap (λ (y : lent.Answer). crashes (serves k y (with_table_lem t))) e
+    crashed-at : (b : Bool) (t : Table) → answer k (with_table_lem t) r ≡ Ok (Some g) → occurs k (HearsAndCrashes r b) (with_table_lem t) ≡ down_with_lem (with? b x t)
+    crashed-at true t e = ap (λ (y : run.Answer). crashes (serves k y (with_table_lem t))) e
     crashed-at false t e = refl
 
     module _ (i : ℕ) (c : Cut) where
@@ -363,10 +361,10 @@ module _ (k : model.Settings) (s : State) (st : Stands k s) where
             }
           ]
 
-  replied : (r : asked.Request) (a : lent.Answer) → answer k v r ≡ a → Refines k s (replies k a s).state (grants_in (replies k a s).effects) (Asking r)
-  replied r Unheard e = unchanged (Asking r)
-  replied r (Refused f) e = unchanged (Asking r)
-  replied r (Granted g) e =
+  replied : (r : asked.Request) (a : run.Answer) → answer k v r ≡ a → Refines k s (replies k a s).state (grants_in (replies k a s).effects) (Asking r)
+  replied r (Ok None) e = unchanged (Asking r)
+  replied r (Err f) e = unchanged (Asking r)
+  replied r (Ok (Some g)) e =
       cond_both (exhausted (planned k s)) (refuses CountExhausted s) (appends k g (planned k s) (lease_of k s g) s) (λ t. Refines k s t.state (grants_in t.effects) (Asking r))
       (λ h. unchanged (Asking r)) (λ h. appended r g e)
 

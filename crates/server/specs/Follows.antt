@@ -1,7 +1,6 @@
 -- A run of the lending core whose server is this one: each step of the server, and each crash within one, goes on with that run, so that its promise holds of it.
 -- Assumes that a request which the server hears was sent; and the premise on clocks where it speaks of who uses what.
 use Rattle.std.specs.Prelude.{◌≡◌, ℕ, ◌+◌, ◌^◌, ◌<◌, List, [], ◌∷◌, ◌++◌, Some, Ok, ◌≢◌}
-use Rattle.lease.specs.declared.answer.Answer.TheVariants.{Granted}
 use Rattle.lease.specs.declared.message.Grant as given
 use Rattle.lease.specs.declared.message.Request as asked
 use Rattle.lease.specs.Settings as model
@@ -12,7 +11,8 @@ use Rattle.lease.specs.Premise.{Agree}
 use Rattle.lease.specs.Promise.{Uses}
 use Rattle.wire.specs.declared.message.Message.TheVariants.{Tick}
 use Rattle.journal.specs.Place.{Blank}
-use Rattle.journal.specs.Device.{Cursor, Device, Side}
+use Rattle.journal.specs.declared.state.Side.{Side}
+use Rattle.journal.specs.Device.{Cursor, Device}
 use Rattle.journal.specs.Append.{writes}
 use Rattle.journal.specs.Crash.{Cut, cut_at}
 use Rattle.server.specs.Server.{State, fresh, hears, lease_of, planned, settles, understood}
@@ -67,5 +67,5 @@ RunTicks =
 -- A CRASH WITHIN AN APPEND
 abbrev pub RunIsCut : Type 0
 RunIsCut =
-    (k : model.Settings) (es : List run.Event) (s : State) (r : asked.Request) (g : given.Grant) (i : ℕ) (c : Cut) → Follows k es s → Sent k es r → answer k s.server r ≡ Granted g →
+    (k : model.Settings) (es : List run.Event) (s : State) (r : asked.Request) (g : given.Grant) (i : ℕ) (c : Cut) → Follows k es s → Sent k es r → answer k s.server r ≡ Ok (Some g) →
     GoesOn k es (down_with (cut_at i c (writes (planned k s) (lease_of k s g)) s.device) s) []

@@ -22,7 +22,7 @@ up_from f (suc n) = f ∷ up_from (suc f) n
 -- the places that effects make durable, in order
 abbrev pub persisted : List Effect → List ℕ
 persisted [] = []
-persisted (Persist f n ∷ es) = up_from f n ++ persisted es
+persisted (Persist w ∷ es) = up_from w.first w.count ++ persisted es
 persisted (Send m ∷ es) = persisted es
 
 -- the places of the device that writes go to
@@ -37,7 +37,7 @@ pub record Grants (s : State) (t : Step) : Type 0 where
   pub grant : given.Grant
   pub first : ℕ
   pub count : ℕ
-  pub order : t.effects ≡ Persist first count ∷ (Send (Grant grant) ∷ [])
+  pub order : t.effects ≡ Persist (record { first = first; count = count }) ∷ (Send (Grant grant) ∷ [])
   pub places : up_from first count ≡ written (writes (planned settings s) (lease_of settings s grant))
   pub device : t.state.device ≡ perform (writes (planned settings s) (lease_of settings s grant)) s.device
   pub before : List Write
@@ -62,5 +62,5 @@ StepsOrderly = (s : State) (bs : List ℕ) → Orderly s (hears bs s)
 -- also where a crash cuts one of these writes, the file holds a device as the journal's laws have it
 pub record FileBy (es : List Effect) (before after : Journal) (s : State) : Type 0 where
   pub unwritten : grants_in es ≡ [] → Unwritten before after
-  pub cut : (k : model.Settings) (g : given.Grant) (first count : ℕ) → s.settings ≡ Some k → es ≡ Persist first count ∷ (Send (Grant g) ∷ []) →
+  pub cut : (k : model.Settings) (g : given.Grant) (first count : ℕ) → s.settings ≡ Some k → es ≡ Persist (record { first = first; count = count }) ∷ (Send (Grant g) ∷ []) →
       CutFile before after (planned k s) (lease_of k s g) (record { first = first; count = count })

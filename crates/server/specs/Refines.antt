@@ -1,8 +1,6 @@
 -- For which server of the lending core a state stands, and that each step of it, also one that is cut by a crash, is what can happen to that one.
 -- Assumes of the device what `Stands` says where the settings come: zeros, damage, or what a server left; and of a write that is cut what the journal assumes.
 use Rattle.std.specs.Prelude.{◌≡◌, ℕ, ◌<◌, Bool, true, false, cond, List, [], ◌∷◌, ◌++◌, Some, None, Ok, Err}
-use Rattle.lease.specs.declared.answer.Answer as lent
-use Rattle.lease.specs.declared.answer.Answer.TheVariants.{Unheard, Granted, Refused}
 use Rattle.lease.specs.declared.message.Grant as given
 use Rattle.lease.specs.declared.message.Request as asked
 use Rattle.lease.specs.Settings as model
@@ -52,10 +50,10 @@ occurs k Crashes v = crashes v
 occurs k (Forgets gone) v = forgets gone v
 occurs k (Restarts clock lost) v = restarts k clock lost v
 
-abbrev pub grant_by : lent.Answer → List given.Grant
-grant_by Unheard = []
-grant_by (Granted g) = g ∷ []
-grant_by (Refused f) = []
+abbrev pub grant_by : run.Answer → List given.Grant
+grant_by (Ok None) = []
+grant_by (Ok (Some g)) = g ∷ []
+grant_by (Err f) = []
 
 -- what is sent then: a server that crashes before it answers sends nothing
 abbrev pub sends : model.Settings → Event → world.Server → List given.Grant
@@ -105,7 +103,7 @@ grant_of (Fault f) = []
 -- the grants among a step's effects
 abbrev pub grants_in : List Effect → List given.Grant
 grants_in [] = []
-grants_in (Persist f n ∷ es) = grants_in es
+grants_in (Persist w ∷ es) = grants_in es
 grants_in (Send m ∷ es) = grant_of m ++ grants_in es
 
 -- what a message can make happen: a tick, a request, a crash, a restart with a clock, or nothing
@@ -162,7 +160,7 @@ down_with d s = record { settings = s.settings; server = crashes s.server; devic
 -- A CRASH WITHIN AN APPEND: after `i` whole writes, the next cut in any way, and before the grant is sent
 abbrev pub CutRefines : Type 0
 CutRefines =
-    (k : model.Settings) (s : State) (r : asked.Request) (g : given.Grant) (i : ℕ) (c : Cut) → Stands k s → answer k s.server r ≡ Granted g →
+    (k : model.Settings) (s : State) (r : asked.Request) (g : given.Grant) (i : ℕ) (c : Cut) → Stands k s → answer k s.server r ≡ Ok (Some g) →
     Refines k s (down_with (cut_at i c (writes (planned k s) (lease_of k s g)) s.device) s) [] (Asking r)
 
 -- THE SETTINGS COME, and a device that is sound

@@ -2,8 +2,6 @@
 -- Assumes nothing: every byte string has its step.
 use Rattle.std.specs.Prelude.{ℕ, ◌+◌, ◌^◌, Bool, true, false, cond, List, [], ◌∷◌, length, Some, None, Ok, Err, Option, nat_le, nat_lt}
 use Rattle.std.specs.Option.{option_map}
-use Rattle.lease.specs.declared.answer.Answer as lent
-use Rattle.lease.specs.declared.answer.Answer.TheVariants.{Unheard, Granted, Refused}
 use Rattle.lease.specs.declared.fault.Fault as lease
 use Rattle.lease.specs.declared.fault.Fault.TheVariants.{Malformed, BadSettings, TableLost, CountExhausted}
 use Rattle.lease.specs.declared.lease.Lease.{Lease}
@@ -13,6 +11,7 @@ use Rattle.lease.specs.Settings as model
 use Rattle.lease.specs.Settings.{life, valid}
 use Rattle.lease.specs.Table.{Table, empty, leased}
 use Rattle.lease.specs.World as world
+use Rattle.lease.specs.Run as run
 use Rattle.lease.specs.Run.{answer, crashes, lends, restarts, server_passes}
 use Rattle.lease.specs.Stands.{with_table}
 use Rattle.wire.specs.declared.message.Message.{Message}
@@ -86,17 +85,17 @@ abbrev pub appends : model.Settings → given.Grant → Plan → Lease → State
 appends k g p x s =
     record {
       state = record { settings = s.settings; server = lends k g s.server; device = perform (writes p x) s.device; cursor = after s.cursor p };
-      effects = Persist (index p.side p.place) (length (writes p x)) ∷ (Send (Grant g) ∷ []);
+      effects = Persist (record { first = index p.side p.place; count = length (writes p x) }) ∷ (Send (Grant g) ∷ []);
     }
 
 -- where sequence numbers would reach 2^63 nothing is written
 abbrev pub grants : model.Settings → given.Grant → State → Step
 grants k g s = cond (exhausted (planned k s)) (refuses CountExhausted s) (appends k g (planned k s) (lease_of k s g) s)
 
-abbrev pub replies : model.Settings → lent.Answer → State → Step
-replies k Unheard s = silently s
-replies k (Granted g) s = grants k g s
-replies k (Refused f) s = refuses f s
+abbrev pub replies : model.Settings → run.Answer → State → Step
+replies k (Ok None) s = silently s
+replies k (Ok (Some g)) s = grants k g s
+replies k (Err f) s = refuses f s
 
 abbrev pub requested : Option model.Settings → asked.Request → State → Step
 requested None r s = refuses BadSettings s

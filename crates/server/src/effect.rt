@@ -1,51 +1,57 @@
-ghost use Rattle.std.specs.Prelude.{◌≡◌, ◌+◌, ◌≤◌, [], ◌∷◌, ◌++◌, vec_len, vec_capacity};
+ghost use Rattle.std.specs.Prelude.{◌≡◌, ◌+◌, ◌≤◌, ◌++◌, Some, Ok, vec_len, vec_capacity};
 ghost use Rattle.server.specs.Reply.{effects_of};
+ghost use Rattle.server.specs.declared.effect.Failure.TheVariants.{Refused, NoMemory};
 
 use journal::Written;
 use lease::{Fault, Grant};
+use std::alloc::AllocError;
 use wire::Message;
 
 // What a step wants done outside, one after the other.
 #[derive(Clone, Copy)]
 pub enum Effect {
-    // so many places of the device from the first on, each durable before the next
-    Persist { first: usize, count: usize },
+    // these places of the device, each durable before the next
+    Persist(Written),
     Send(Message),
 }
 
-// What a step comes to.
+// A lease on the device, and the grant that tells it.
 #[derive(Clone, Copy)]
-pub enum Reply {
-    Nothing,
-    Refused(Fault),
-    Granted(Written, Grant),
+pub struct Lent {
+    pub(crate) written: Written,
+    pub(crate) grant: Grant,
 }
 
-impl Reply {
-    // Appends the effects, in order: a lease is durable before its grant is sent.
+impl Lent {
+    // Appends its effects, in order: a lease is durable before its grant is sent.
     pub(crate) fn put(self, out: &mut Vec<Effect>)
         requires { vec_len out.old + 2 ≤ vec_capacity out.old }
-        ensures { out.new.items ≡ out.old.items ++ effects_of self }
+        ensures { out.new.items ≡ out.old.items ++ effects_of (Ok (Some self)) }
     {
-        match self {
-            Reply::Nothing => {}
-            Reply::Refused(fault) => out.push_reserved(Effect::Send(Message::Fault(fault))),
-            Reply::Granted(written, grant) => {
-                let persist = Effect::Persist {
-                    first: written.first,
-                    count: written.count,
-                };
-                both(out, persist, Effect::Send(Message::Grant(grant)));
-            }
-        }
+        out.push_reserved(Effect::Persist(self.written));
+        out.push_reserved(Effect::Send(Message::Grant(self.grant)));
     }
 }
 
-// Appends one effect and then the other.
-fn both(out: &mut Vec<Effect>, earlier: Effect, later: Effect)
-    requires { vec_len out.old + 2 ≤ vec_capacity out.old }
-    ensures { out.new.items ≡ out.old.items ++ (earlier ∷ (later ∷ [])) }
-{
-    out.push_reserved(earlier);
-    out.push_reserved(later);
+// Why a message lends nothing: it is refused, which is told, or there is no memory for its step.
+#[derive(Clone, Copy)]
+pub enum Failure {
+    Refused(Fault),
+    NoMemory(AllocError),
+}
+
+impl From<Fault> for Failure {
+    ghost from_gives = { λ fault result. result ≡ Refused fault };
+
+    fn from(fault: Fault) -> Failure {
+        Failure::Refused(fault)
+    }
+}
+
+impl From<AllocError> for Failure {
+    ghost from_gives = { λ error result. result ≡ NoMemory error };
+
+    fn from(error: AllocError) -> Failure {
+        Failure::NoMemory(error)
+    }
 }

@@ -1,5 +1,5 @@
-use anyhow::anyhow;
-use journal::{Journal, device_bytes, device_places};
+use anyhow::Context;
+use journal::Journal;
 use lease::Request;
 use server::{Effect, Server};
 use std::alloc::Global;
@@ -23,6 +23,15 @@ pub enum Workload {
     FirstRequests,
 }
 
+impl Workload {
+    fn term(self) -> u32 {
+        match self {
+            Workload::Renewals => LONG_TERM,
+            Workload::FirstRequests => SHORT_TERM,
+        }
+    }
+}
+
 // A server, with room for what it answers.
 #[derive(Drop)]
 pub struct Bench {
@@ -34,31 +43,19 @@ pub struct Bench {
     sum: u32,
 }
 
-fn opened(heap: Global) -> anyhow::Result<Journal> {
-    let image = vec![in heap; 0u8; device_bytes()]?;
-    match Journal::open(Vec::with_capacity(heap, device_places())?, &image) {
-        Ok(journal) => Ok(journal),
-        Err(_) => Err(anyhow!("no device")),
-    }
-}
-
 impl Bench {
     pub fn new(heap: Global, workload: Workload) -> anyhow::Result<Bench> {
         let mut bench = Bench {
-            server: Server::new(heap, opened(heap)?),
+            server: Server::new(heap, Journal::blank(heap)?),
             effects: Vec::new(heap),
             message: Vec::new(heap),
             out: Vec::new(heap),
             workload,
             sum: 0,
         };
-        let term = match workload {
-            Workload::Renewals => LONG_TERM,
-            Workload::FirstRequests => SHORT_TERM,
-        };
         bench.hear(Message::Settings {
             addresses: ADDRESSES,
-            term,
+            term: workload.term(),
             skew: 0,
         })?;
         Ok(bench)
@@ -72,14 +69,12 @@ impl Bench {
     fn hear(&mut self, message: Message) -> anyhow::Result<()> {
         self.message.clear();
         message.encode(&mut self.message)?;
-        let Some(bytes) = self.message.get(1..) else {
-            return Err(anyhow!("no message"));
-        };
+        let bytes = self.message.get(1..).context("no message")?;
         self.server.hear(bytes, &mut self.effects)?;
-        for effect in self.effects.iter() {
+        for effect in &self.effects {
             match *effect {
-                Effect::Persist { first, .. } => {
-                    self.sum = self.sum.wrapping_add((first & 0xffff) as u32)
+                Effect::Persist(written) => {
+                    self.sum = self.sum.wrapping_add((written.first & 0xffff) as u32)
                 }
                 Effect::Send(sent) => sent.encode(&mut self.out)?,
             }
@@ -103,6 +98,7 @@ impl Bench {
         for client in 0..u32::from(ADDRESSES) {
             self.request(client)?;
         }
+        // The numbers that the twin in plain Rust draws too.
         let mut random: u32 = 1;
         for _ in 0..RENEWALS {
             random = random.wrapping_mul(1_664_525).wrapping_add(1_013_904_223);
@@ -123,6 +119,7 @@ impl Bench {
         Ok(())
     }
 
+    // A workload is a value and no closure, since it gives the term too.
     pub fn play(&mut self) -> anyhow::Result<()> {
         match self.workload {
             Workload::Renewals => self.renew(),

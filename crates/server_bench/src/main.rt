@@ -26,6 +26,7 @@ fn print_sums(rt: &HostRuntime, heap: Global) -> anyhow::Result<()> {
 
 // Microseconds of the best round.
 fn best(rt: &HostRuntime, heap: Global, workload: Workload) -> anyhow::Result<u128> {
+    // a round is always the best so far, since there are some
     let mut best = u128::MAX;
     for _ in 0..ROUNDS {
         let mut bench = Bench::new(heap, workload)?;
@@ -45,10 +46,13 @@ fn print_times(rt: &HostRuntime, heap: Global) -> anyhow::Result<()> {
 
 fn run(rt: &HostRuntime) -> anyhow::Result<()> {
     let heap = rt.alloc();
-    match env::args(rt)?.nth(1) {
-        Some(word) if word.as_str() == "time" => print_times(rt, heap),
-        _ => print_sums(rt, heap),
+    if env::args(rt)?
+        .nth(1)
+        .is_some_and(|word| word.as_str() == "time")
+    {
+        return print_times(rt, heap);
     }
+    print_sums(rt, heap)
 }
 
 fn main(rt: HostRuntime) -> anyhow::Result<()> {

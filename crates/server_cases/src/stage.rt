@@ -1,70 +1,46 @@
-use anyhow::anyhow;
-use journal::{Journal, device_bytes, device_places};
+use anyhow::Context;
+use journal::{Journal, Written, device_places};
 use server::{Effect, Server};
 use std::alloc::Global;
 
-// A server, and the file of its device: what of it is durable.
+// A server, and the file of its device, by places: what of it is durable.
 #[derive(Drop)]
 pub struct Stage {
-    file: Vec<u8>,
+    file: Vec<[u8; 28]>,
     server: Server,
     out: Vec<Effect>,
 }
 
-// A server over what a file holds.
-fn opened(heap: Global, file: &[u8]) -> anyhow::Result<Server> {
-    let room = Vec::with_capacity(heap, device_places())?;
-    match Journal::open(room, file) {
-        Ok(journal) => Ok(Server::new(heap, journal)),
-        Err(_) => Err(anyhow!("no device")),
+// The server makes these places durable, one after the other.
+fn persist(file: &mut [[u8; 28]], server: &Server, written: Written) -> anyhow::Result<()> {
+    let Written { first, count } = written;
+    let end = first.checked_add(count).context("no such places")?;
+    for k in first..end {
+        let bytes = server.place(k).context("no such place")?;
+        *file.get_mut(k).context("no such place")? = bytes;
     }
-}
-
-// The bytes of a place take its place in the file.
-fn write(file: &mut Vec<u8>, place: usize, bytes: [u8; 28]) -> anyhow::Result<()> {
-    if place >= device_places() || file.len() < place * 28 + 28 {
-        return Err(anyhow!("no such place"));
-    }
-    file[place * 28..place * 28 + 28].copy_from_slice(&bytes);
     Ok(())
 }
 
 impl Stage {
     pub fn new(heap: Global) -> anyhow::Result<Stage> {
-        let file = vec![in heap; 0; device_bytes()]?;
-        let server = opened(heap, &file)?;
         Ok(Stage {
-            file,
-            server,
+            file: vec![in heap; [0; 28]; device_places()]?,
+            server: Server::new(heap, Journal::blank(heap)?),
             out: Vec::new(heap),
         })
     }
 
     // The program ends and begins anew.
     pub fn reopen(&mut self, heap: Global) -> anyhow::Result<()> {
-        self.server = opened(heap, &self.file)?;
+        let journal = Journal::read(heap, self.file.as_flattened())?;
+        self.server = Server::new(heap, journal);
         Ok(())
     }
 
     // A byte of a place of the file is another one.
     pub fn damage(&mut self, place: usize) -> anyhow::Result<()> {
-        if place >= device_places() || self.file.len() <= place * 28 {
-            return Err(anyhow!("no such place"));
-        }
-        self.file[place * 28] ^= 1;
-        Ok(())
-    }
-
-    fn persist(&mut self, first: usize, count: usize) -> anyhow::Result<()> {
-        let Some(end) = first.checked_add(count) else {
-            return Err(anyhow!("no such places"));
-        };
-        for k in first..end {
-            let Some(bytes) = self.server.place(k) else {
-                return Err(anyhow!("no such place"));
-            };
-            write(&mut self.file, k, bytes)?;
-        }
+        self.file.get_mut(place).context("no such place")?[0] ^= 1;
         Ok(())
     }
 
@@ -72,12 +48,9 @@ impl Stage {
     pub fn hear(&mut self, bytes: &[u8]) -> anyhow::Result<()> {
         self.out.clear();
         self.server.hear(bytes, &mut self.out)?;
-        for i in 0..self.out.len() {
-            let Some(effect) = self.out.get(i).copied() else {
-                break;
-            };
-            if let Effect::Persist { first, count } = effect {
-                self.persist(first, count)?;
+        for effect in &self.out {
+            if let Effect::Persist(written) = *effect {
+                persist(&mut self.file, &self.server, written)?;
             }
         }
         Ok(())
@@ -85,6 +58,6 @@ impl Stage {
 
     // What the last message made it do.
     pub fn effects(&self) -> &[Effect] {
-        self.out.as_slice()
+        &self.out
     }
 }

@@ -1,8 +1,11 @@
 -- What the list of clients and the list of messages stand for, after a read and after a write.
 -- Assumes nothing.
-use Rattle.std.proofs.Common.{◌≡◌, ℕ, zero, suc, ◌+◌, ◌-◌, ◌^◌, ◌<◌, ◌≤◌, Bool, true, false, ◌||◌, eqb, List, [], ◌∷◌, ◌++◌, map, reverse, length, get_or, take, set, replicate, is_err, Some, None, Ok, Err, Result, sym, refl, ap, ◌∙◌, arith, below_more}
+use Rattle.std.proofs.Common.{◌≡◌, ℕ, zero, suc, ◌+◌, ◌^◌, ◌<◌, ◌≤◌, Bool, true, ◌||◌, eqb, List, [], ◌∷◌, ◌++◌, map, reverse, length, get_or, set, replicate, is_ok, Ok, Err, Result, sym, refl, ap, ◌∙◌, subst, arith, below_more}
 use mathlib.Core.Path.{fun_ext}
-use Rattle.std.proofs.lemmas.List.{get_or-map, get_or_past, get_or-reverse, map-set, map-append, length-map, length-reverse, reverse-append, take_more}
+use Rattle.std.specs.List.{list_any, slice_get}
+use Rattle.std.specs.Option.{option_map}
+use Rattle.std.proofs.lemmas.List.{get_or-map, get_or_past, map-set, map-append, length-map, reverse-append}
+use Rattle.std.proofs.lemmas.List.Sorted.{IsPermutation-reverse, list_any-IsPermutation}
 use Rattle.std.proofs.lemmas.Bool.{both_ways, cond-true, cond-false, eq-eqb, ne_eqb}
 use Rattle.lease.specs.declared.fault.Fault.{Fault}
 use Rattle.lease.specs.declared.holder.Holder.{Holder}
@@ -55,53 +58,34 @@ pub nonces-grant : (g : grant.Grant) (ms : List world.Message) → nonces (world
 unfolding nonces
 nonces-grant g ms = refl
 
--- the message that is the newest but so many
-sent-at : (i : ℕ) (ms : List world.Message) (d : world.Message) → i < length ms → world.sent i ms ≡ Some (get_or ms i d)
+-- the messages in turn, the newest first
+map_reverse : {A B : Type 0} (f : A → B) (xs : List A) → map f (reverse xs) ≡ reverse (map f xs)
+map_reverse f [] = refl
+map_reverse {A} {B} f (x ∷ xs) =
+    ap (λ (l : List A). map f l) (reverse-append (x ∷ []) xs) ∙ map-append f (reverse xs) (x ∷ []) ∙ ap (λ (l : List B). l ++ f x ∷ []) (map_reverse f xs)
+    ∙ sym (reverse-append (f x ∷ []) (map f xs))
+
+pub newest : (ms : List Sent) (i : ℕ) → option_map message_of (slice_get (reverse ms) i) ≡ world.sent i (messages_of ms)
 unfolding world.sent
-sent-at i [] d h = absurd (omega arith)
-sent-at zero (m ∷ ms) d h = refl
-sent-at (suc i) (m ∷ ms) d h = sent-at i ms d (omega arith)
+newest ms i = sent-in (reverse ms) i ∙ ap (λ (l : List world.Message). world.sent i l) (map_reverse message_of ms) where
+  sent-in : (l : List Sent) (k : ℕ) → option_map message_of (slice_get l k) ≡ world.sent k (map message_of l)
+  sent-in [] k = refl
+  sent-in (m ∷ l) zero = refl
+  sent-in (m ∷ l) (suc k) = sent-in l k
 
-sent-none : (i : ℕ) (ms : List world.Message) → length ms ≤ i → world.sent i ms ≡ None
-unfolding world.sent
-sent-none i [] h = refl
-sent-none zero (m ∷ ms) h = absurd (omega arith)
-sent-none (suc i) (m ∷ ms) h = sent-none i ms (omega arith)
+-- a nonce is drawn where some request has it
+any_map : {A B : Type 0} (f : A → B) (test : B → Bool) (xs : List A) → list_any (λ x. test (f x)) xs ≡ list_any test (map f xs)
+any_map f test [] = refl
+any_map f test (x ∷ xs) = ap (λ (b : Bool). test (f x) || b) (any_map f test xs)
 
-long : (ms : List Sent) → length (messages_of ms) ≡ length ms
-long ms = length-reverse (map message_of ms) ∙ length-map ms message_of
-
-pub message-at : (ms : List Sent) (i : ℕ) (d : Sent) → i < length ms → Some (message_of (get_or ms (length ms - 1 - i) d)) ≡ world.sent i (messages_of ms)
-message-at ms i d h =
-    let l : length (map message_of ms) ≡ length ms = length-map ms message_of in
-    let w : world.Message = message_of d in
-    sym (sent-at i (messages_of ms) w (omega (arith, long ms))
-    ∙ ap (λ (x : world.Message). Some x) (
-    get_or-reverse (map message_of ms) i w (omega (arith, l))
-    ∙ ap (λ (n : ℕ). get_or (map message_of ms) (n - 1 - i) w) l
-    ∙ get_or-map message_of ms (length ms - 1 - i) d w (omega arith)))
-
-pub message-none : (ms : List Sent) (i : ℕ) → length ms ≤ i → None ≡ world.sent i (messages_of ms)
-message-none ms i h = sym (sent-none i (messages_of ms) (omega (arith, long ms)))
-
--- the nonces of one message more
-abbrev pub drawn_in : ℕ → List Sent → Bool
-drawn_in n ms = world.elem n (nonces (messages_of ms))
-
-pub drawn-none : (n : ℕ) → drawn_in n [] ≡ false
+drawn-in : (n : ℕ) (ms : List world.Message) → list_any (draws_it n) ms ≡ world.elem n (nonces ms)
 unfolding world.elem nonces
-drawn-none n = refl
+drawn-in n [] = refl
+drawn-in n (world.Requests r ∷ ms) = ap (λ (b : Bool). eqb n r.nonce || b) (drawn-in n ms)
+drawn-in n (world.Grants g ∷ ms) = drawn-in n ms
 
-drawn-message : (n : ℕ) (m : world.Message) (ms : List world.Message) → world.elem n (nonces (m ∷ ms)) ≡ (draws_it n m || world.elem n (nonces ms))
-unfolding world.elem nonces
-drawn-message n (world.Requests r) ms = refl
-drawn-message n (world.Grants g) ms = refl
-
-drawn-more : (n : ℕ) (ms : List Sent) (i : ℕ) (d : Sent) → i < length ms → drawn_in n (take (i + 1) ms) ≡ (draws_it n (message_of (get_or ms i d)) || drawn_in n (take i ms))
-drawn-more n ms i d h =
-    ap (λ (l : List Sent). drawn_in n l) (take_more ms i d h)
-    ∙ ap (λ (l : List world.Message). world.elem n (nonces l)) (messages-push (take i ms) (get_or ms i d))
-    ∙ drawn-message n (message_of (get_or ms i d)) (messages_of (take i ms))
+pub drawn_any : (n : ℕ) (ms : List Sent) → list_any (λ m. draws_it n (message_of m)) ms ≡ world.elem n (nonces (messages_of ms))
+drawn_any n ms = any_map message_of (draws_it n) ms ∙ list_any-IsPermutation (draws_it n) _ _ (IsPermutation-reverse (map message_of ms)) ∙ drawn-in n (messages_of ms)
 
 -- a clock that went on, and one that could not
 went_on : (h l : Holder) (n : ℕ) → client_of l ≡ client_passes n (client_of h) → h.up ≡ true → h.clock.ticks + n < 2 ^ 63
@@ -109,13 +93,14 @@ went_on h l n e u =
     let z : l.clock.ticks ≡ h.clock.ticks + n = ap (λ (x : world.Client). x.clock) (e ∙ cond-true h.up _ (client_of h) u) in
     omega (arith, z, l.clock.early)
 
-pub can_pass : (r : Result Holder Fault) (n : ℕ) (h : Holder) → HolderPassed r n h → is_err r ≡ false → h.up ≡ true → h.clock.ticks + n < 2 ^ 63
+pub can_pass : (r : Result Holder Fault) (n : ℕ) (h : Holder) → HolderPassed r n h → is_ok r ≡ true → h.up ≡ true → h.clock.ticks + n < 2 ^ 63
 can_pass (Ok l) n h p e u = went_on h l n p u
-can_pass (Err f) n h p e u = absurd (both_ways _ e refl)
+can_pass (Err f) n h p e u = absurd (both_ways _ refl e)
 
-pub cannot_pass : (r : Result Holder Fault) (n : ℕ) (h : Holder) → HolderPassed r n h → is_err r ≡ true → (h.up ≡ true) × (2 ^ 63 ≤ h.clock.ticks + n)
-cannot_pass (Ok l) n h p e = absurd (both_ways _ refl e)
-cannot_pass (Err f) n h p e = (p.0, p.2)
+-- what is so of each client's value is so of the client that it stands for
+pub at_each : (xs : List Holder) (k : ℕ) → k < length xs → (P : world.Client → Type 0) → ((d : Holder) → P (client_of (get_or xs k d))) → P (clients_of xs k)
+at_each [] k h P f = absurd (omega arith)
+at_each (x ∷ xs) k h P f = subst P (sym (client-at (x ∷ xs) k x h)) (f x)
 
 -- one turn of the loop that lets time pass: the clients below `i` went on, the others didn't yet
 abbrev pub GoneOn : (ticks : List ℕ) → (i : ℕ) → List Holder → List Holder → Type 0
@@ -129,7 +114,3 @@ goes_on ts i old xs x y h e f inv = (
       (clients-same xs i y h ∙ f ∙ ap (λ (z : world.Client). client_passes (get_or ts i 0) z) (sym e ∙ inv.1 i (omega arith))),
   λ k l. clients-other xs i k y h (λ z. omega arith) ∙ inv.1 k (omega arith),
 )
-
-pub drawn-turn : (n : ℕ) (ms : List Sent) (i : ℕ) (d : Sent) (b old : Bool) → i < length ms → b ≡ draws_it n (message_of (get_or ms i d)) → old ≡ drawn_in n (take i ms) → (b || old) ≡ drawn_in n (take (i + 1) ms)
-drawn-turn n ms i d b old h e f =
-    ap (λ (x : Bool). x || old) e ∙ ap (λ (x : Bool). draws_it n (message_of (get_or ms i d)) || x) f ∙ sym (drawn-more n ms i d h)

@@ -4,8 +4,6 @@ use Rattle.std.proofs.Common.{◌≡◌, ℕ, ◌+◌, ◌<◌, ◌≤◌, Bool,
 use mathlib.Core.Path.{fun_ext}
 use Rattle.std.proofs.lemmas.List.{get_or_default, map-append, reverse-append, take_more, take_all}
 use Rattle.std.proofs.lemmas.Bool.{cond_both, cond-true, cond-false, cases_lt, eqb-true, and_from, and_left, not_from_false}
-use Rattle.lease.specs.declared.answer.Answer.{Answer}
-use Rattle.lease.specs.declared.answer.Answer.TheVariants.{Granted}
 use Rattle.lease.specs.declared.fault.Fault.{Fault}
 use Rattle.lease.specs.declared.message.Request as request
 use Rattle.lease.specs.declared.message.Grant as grant
@@ -88,14 +86,14 @@ ask_down v xs ms i n p x h r d = sym (cond-false _ _ _ (and_left _ _ (ap (λ (z 
 
 -- a request is answered
 pub grant-step : (s : Settings) (v u : world.Server) (f : ℕ → world.Client) (r : request.Request) (g : grant.Grant) (ms ms' : List Sent) (o : Option world.Message) →
-    Some (world.Requests r) ≡ o → Granted g ≡ run.answer s v r → u ≡ run.serves s (Granted g) v → ms' ≡ ms ++ Grant g ∷ [] →
+    Some (world.Requests r) ≡ o → Ok (Some g) ≡ run.answer s v r → u ≡ run.serves s (Ok (Some g)) v → ms' ≡ ms ++ Grant g ∷ [] →
     whole u f (messages_of ms') ≡ run.server_hears s o (whole v f (messages_of ms))
 grant-step s v u f r g ms ms' o e a b m =
     let l : messages_of ms' ≡ world.Grants g ∷ messages_of ms = ap (λ (x : List Sent). messages_of x) m ∙ messages-push ms (Grant g) in
     ap (λ (x : List world.Message). whole u f x) l
     ∙ ap (λ (x : world.Server). whole x f (world.Grants g ∷ messages_of ms)) b
-    ∙ ap (λ (x : List ℕ). record { server = run.serves s (Granted g) v; clients = f; messages = world.Grants g ∷ messages_of ms; drawn = x }) (nonces-grant g (messages_of ms))
-    ∙ ap (λ (x : Answer). run.replied s x (whole v f (messages_of ms))) a
+    ∙ ap (λ (x : List ℕ). record { server = run.serves s (Ok (Some g)) v; clients = f; messages = world.Grants g ∷ messages_of ms; drawn = x }) (nonces-grant g (messages_of ms))
+    ∙ ap (λ (x : run.Answer). run.replied s x (whole v f (messages_of ms))) a
     ∙ ap (λ (x : Option world.Message). run.server_hears s x (whole v f (messages_of ms))) e
 
 -- a client hears a grant
@@ -114,51 +112,51 @@ hear_not s v xs ms i x f g o e h r k =
     ∙ ap (λ (z : Option world.Message). run.client_hears s i z (whole v (clients_of xs) ms)) e
 
 -- one event more
-pub history-more : (ts : List ℕ) (es : List Event) (i : ℕ) (d : Event) → i < length es → history ts (take (i + 1) es) ≡ event_of ts (get_or es i d) ∷ history ts (take i es)
-history-more ts es i d h =
-    ap (λ (l : List Event). history ts l) (take_more es i d h)
-    ∙ ap (λ (l : List run.Event). reverse l) (map-append (event_of ts) (take i es) (get_or es i d ∷ []))
-    ∙ reverse-append (map (event_of ts) (take i es)) (event_of ts (get_or es i d) ∷ [])
+pub history-more : (es : List Event) (i : ℕ) (d : Event) → i < length es → history (take (i + 1) es) ≡ event_of (get_or es i d) ∷ history (take i es)
+history-more es i d h =
+    ap (λ (l : List Event). history l) (take_more es i d h)
+    ∙ ap (λ (l : List run.Event). reverse l) (map-append event_of (take i es) (get_or es i d ∷ []))
+    ∙ reverse-append (map event_of (take i es)) (event_of (get_or es i d) ∷ [])
 
 -- where a play has come to: after the first `i` events
-abbrev pub Reached : (ticks : List ℕ) → List Event → (i : ℕ) → Simulation → Simulation → Type 0
-Reached ts es i x y =
-    ((past : List run.Event) → world_of x ≡ run.world (settings_in x) past → world_of y ≡ run.world (settings_in x) (history ts (take i es) ++ past))
+abbrev pub Reached : List Event → (i : ℕ) → Simulation → Simulation → Type 0
+Reached es i x y =
+    ((past : List run.Event) → world_of x ≡ run.world (settings_in x) past → world_of y ≡ run.world (settings_in x) (history (take i es) ++ past))
     × (settings_in y ≡ settings_in x) × (vec_len y.clients ≡ vec_len x.clients)
 
-pub reached-none : (ts : List ℕ) (es : List Event) (x : Simulation) → Reached ts es 0 x x
-reached-none ts es x = ((λ past e. e), refl, refl)
+pub reached-none : (es : List Event) (x : Simulation) → Reached es 0 x x
+reached-none es x = ((λ past e. e), refl, refl)
 
-pub reached-more : (ts : List ℕ) (es : List Event) (i : ℕ) (d : Event) (x y z : Simulation) (u : Unit) → i < length es → Reached ts es i x y → Stepped (Ok u) (event_of ts (get_or es i d)) y z → Reached ts es (i + 1) x z
+pub reached-more : (es : List Event) (i : ℕ) (d : Event) (x y z : Simulation) (u : Unit) → i < length es → Reached es i x y → Stepped (Ok u) (event_of (get_or es i d)) y z → Reached es (i + 1) x z
 unfolding run.world
-reached-more ts es i d x y z u h r st = (
+reached-more es i d x y z u h r st = (
   (λ past e.
-      st.step ∙ ap (λ (s : Settings). run.step s (event_of ts (get_or es i d)) (world_of y)) r.1
-      ∙ ap (λ (w : world.World). run.step (settings_in x) (event_of ts (get_or es i d)) w) (r.0 past e)
-      ∙ ap (λ (l : List run.Event). run.world (settings_in x) (l ++ past)) (sym (history-more ts es i d h))),
+      st.step ∙ ap (λ (s : Settings). run.step s (event_of (get_or es i d)) (world_of y)) r.1
+      ∙ ap (λ (w : world.World). run.step (settings_in x) (event_of (get_or es i d)) w) (r.0 past e)
+      ∙ ap (λ (l : List run.Event). run.world (settings_in x) (l ++ past)) (sym (history-more es i d h))),
   st.settings ∙ r.1,
   st.clients ∙ r.2,
 )
 
-pub reached_stop : (ts : List ℕ) (es : List Event) (i : ℕ) (d : Event) (x y z : Simulation) (stop : Stop) → i < length es → Reached ts es i x y → Stepped (Err stop) (event_of ts (get_or es i d)) y z →
-    ((past : List run.Event) → world_of x ≡ run.world (settings_in x) past → PlayedTo stop ts es past x z) × (settings_in z ≡ settings_in x) × (vec_len z.clients ≡ vec_len x.clients)
-reached_stop ts es i d x y z stop h r st = (
+pub reached_stop : (es : List Event) (i : ℕ) (d : Event) (x y z : Simulation) (stop : Stop) → i < length es → Reached es i x y → Stepped (Err stop) (event_of (get_or es i d)) y z →
+    ((past : List run.Event) → world_of x ≡ run.world (settings_in x) past → PlayedTo stop es past x z) × (settings_in z ≡ settings_in x) × (vec_len z.clients ≡ vec_len x.clients)
+reached_stop es i d x y z stop h r st = (
   (λ past e. (
     i,
     get_or es i d,
     h,
     get_or_default es i d (get_or es i d) h,
     st.step.0 ∙ r.0 past e,
-    subst (λ (w : world.World). Refused stop (vec_len x.clients) (event_of ts (get_or es i d)) w) (sym st.step.0)
-        (subst (λ (n : ℕ). Refused stop n (event_of ts (get_or es i d)) (world_of y)) r.2 st.step.1),
+    subst (λ (w : world.World). Refused stop (vec_len x.clients) (event_of (get_or es i d)) w) (sym st.step.0)
+        (subst (λ (n : ℕ). Refused stop n (event_of (get_or es i d)) (world_of y)) r.2 st.step.1),
   )),
   st.settings ∙ r.1,
   st.clients ∙ r.2,
 )
 
-pub world_end : (s : Settings) (ts : List ℕ) (es : List Event) (i : ℕ) (past : List run.Event) (w : world.World) → length es ≤ i →
-    w ≡ run.world s (history ts (take i es) ++ past) → w ≡ run.world s (history ts es ++ past)
-world_end s ts es i past w h e = e ∙ ap (λ (l : List Event). run.world s (history ts l ++ past)) (take_all i es h)
+pub world_end : (s : Settings) (es : List Event) (i : ℕ) (past : List run.Event) (w : world.World) → length es ≤ i →
+    w ≡ run.world s (history (take i es) ++ past) → w ≡ run.world s (history es ++ past)
+world_end s es i past w h e = e ∙ ap (λ (l : List Event). run.world s (history l ++ past)) (take_all i es h)
 
 -- THE PROMISE, over the code's own clients
 pub alone : (s : Settings) (es : List run.Event) (xs : List Holder) → clients_of xs ≡ (run.world s es).clients → Agree s es → Alone xs

@@ -1,6 +1,6 @@
 -- What a simulation stands for, what its events are in the model, and what a play of them leaves.
 -- Assumes nothing.
-use Rattle.std.specs.Prelude.{◌≡◌, ℕ, ◌+◌, ◌^◌, ◌<◌, ◌≤◌, Bool, true, false, ◌⊎◌, List, [], ◌∷◌, ◌++◌, map, reverse, length, get_or, take, drop, Some, Ok, Err, vec_items, vec_len, Result, ◌==◌, slice_index, slice_index_or}
+use Rattle.std.specs.Prelude.{◌≡◌, ℕ, ◌+◌, ◌^◌, ◌<◌, ◌≤◌, Bool, true, false, ◌⊎◌, List, [], ◌∷◌, ◌++◌, map, reverse, length, get_or, take, Some, codes, Ok, Err, vec_items, vec_len, Result, ◌==◌, slice_index, slice_index_or}
 use Rattle.lease.specs.declared.holder.Holder.{Holder}
 use Rattle.lease.specs.Settings.{Settings}
 use Rattle.lease.specs.Holding as held
@@ -61,20 +61,26 @@ abbrev pub wrote : Interrupted → Bool
 wrote BeforeTheLease = false
 wrote AfterTheLease = true
 
-abbrev pub event_of : (ticks : List ℕ) → Event → run.Event
-event_of ts (Pass k row) = run.Pass k (λ c. slice_index (drop row ts) c)
-event_of ts (Ask c n p) = run.Asks c n p
-event_of ts (ServerHears i) = run.ServerHears i
-event_of ts (ServerHearsAndCrashes i x) = run.ServerHearsAndCrashes i (wrote x)
-event_of ts (ClientHears c i) = run.ClientHears c i
-event_of ts (ClientStarts c clock) = run.ClientStarts c clock
-event_of ts (ClientCrashes c) = run.ClientCrashes c
-event_of ts ServerCrashes = run.ServerCrashes
-event_of ts (ServerRestarts clock found) = run.ServerRestarts clock (is_lost found)
+abbrev pub event_of : Event → run.Event
+event_of (Pass k ts) = run.Pass k (λ c. slice_index ts.now c)
+event_of (Ask c n p) = run.Asks c n p
+event_of (ServerHears i) = run.ServerHears i
+event_of (ServerHearsAndCrashes i x) = run.ServerHearsAndCrashes i (wrote x)
+event_of (ClientHears c i) = run.ClientHears c i
+event_of (ClientStarts c clock) = run.ClientStarts c clock
+event_of (ClientCrashes c) = run.ClientCrashes c
+event_of ServerCrashes = run.ServerCrashes
+event_of (ServerRestarts clock found) = run.ServerRestarts clock (is_lost found)
 
 -- a list of events as the model has it, the latest first
-abbrev pub history : (ticks : List ℕ) → List Event → List run.Event
-history ts es = reverse (map (event_of ts) es)
+abbrev pub history : List Event → List run.Event
+history es = reverse (map event_of es)
+
+-- what a cause is called
+abbrev pub stop_text : Stop → List ℕ
+stop_text CountExhausted = codes "a clock would reach 2^63"
+stop_text NoSuchClient = codes "no such client"
+stop_text NoMemory = codes "out of memory"
 
 -- what each cause says, where it can come
 abbrev pub ByStop : Stop → (exhausted nobody memory : Type 0) → Type 0
@@ -117,12 +123,12 @@ Alone xs =
     (holding_of (get_or xs i d).holding).uses ≡ Some u → (holding_of (get_or xs j d).holding).uses ≡ Some v → u.address ≡ v.address → i ≡ j
 
 -- a play ends at the first event that is refused: it happened up to there
-abbrev pub PlayedTo : Stop → (ticks : List ℕ) → List Event → (past : List run.Event) → Simulation → Simulation → Type 0
-PlayedTo stop ts es past x y =
-    (i : ℕ) × (e : Event) × (i < length es) × (e ≡ slice_index_or es i e) × (world_of y ≡ run.world (settings_in x) (history ts (take i es) ++ past)) × Refused stop (vec_len x.clients) (event_of ts e) (world_of y)
+abbrev pub PlayedTo : Stop → List Event → (past : List run.Event) → Simulation → Simulation → Type 0
+PlayedTo stop es past x y =
+    (i : ℕ) × (e : Event) × (i < length es) × (e ≡ slice_index_or es i e) × (world_of y ≡ run.world (settings_in x) (history (take i es) ++ past)) × Refused stop (vec_len x.clients) (event_of e) (world_of y)
 
 -- THE PLAY, from any moment of any run: it goes on as the model does, and within the premise no two clients use one address
-abbrev pub Played : Result Unit Stop → (ticks : List ℕ) → List Event → (past : List run.Event) → Simulation → Simulation → Type 0
-Played (Ok u) ts es past x y =
-    (world_of y ≡ run.world (settings_in x) (history ts es ++ past)) × (Agree (settings_in x) (history ts es ++ past) → Alone (vec_items y.clients))
-Played (Err stop) ts es past x y = PlayedTo stop ts es past x y
+abbrev pub Played : Result Unit Stop → List Event → (past : List run.Event) → Simulation → Simulation → Type 0
+Played (Ok u) es past x y =
+    (world_of y ≡ run.world (settings_in x) (history es ++ past)) × (Agree (settings_in x) (history es ++ past) → Alone (vec_items y.clients))
+Played (Err stop) es past x y = PlayedTo stop es past x y

@@ -9,29 +9,19 @@ use crate::event::Sent;
 pub(crate) fn message(sent: &[Sent], which: usize) -> Option<Sent>
     ensures { option_map message_of result ≡ sent_at which (messages_of sent.now) }
 {
-    if which >= sent.len() {
-        return None;
-    }
-    Some(sent[sent.len() - 1 - which])
+    sent.iter().rev().nth(which).copied()
 }
 
 // It is a request with this nonce.
 fn draws(message: Sent, nonce: u64) -> bool
     ensures { result ≡ draws_it nonce (message_of message) }
 {
-    match message {
-        Sent::Request(request) => nonce == request.nonce,
-        Sent::Grant(_) => false,
-    }
+    matches!(message, Sent::Request(request) if nonce == request.nonce)
 }
 
 // One of the requests has this nonce.
 pub(crate) fn was_drawn(sent: &[Sent], nonce: u64) -> bool
     ensures { result ≡ elem nonce (nonces (messages_of sent.now)) }
 {
-    let mut drawn = false;
-    for m in sent {
-        drawn = draws(*m, nonce) | drawn;
-    }
-    drawn
+    sent.iter().any(|m| draws(*m, nonce))
 }

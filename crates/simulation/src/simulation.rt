@@ -1,15 +1,16 @@
-ghost use Rattle.std.specs.Prelude.{◌≡◌, List, IfOk, vec_len, slice_index};
+ghost use Rattle.std.specs.Prelude.{◌≡◌, ◌<◌, ◌≤◌, List, IfOk, MatchResult, vec_len, slice_index, slice_index_or};
 ghost use Rattle.std.specs.Option.{option_map};
 ghost use Rattle.lease.specs.World.{start};
 ghost use Rattle.lease.specs.Run as run;
 ghost use Rattle.lease.specs.Of.{settings_of, use_of};
 ghost use Rattle.lease.specs.Stands.{is_lost};
 ghost use Rattle.simulation.specs.Play.{clients_of, world_of, settings_in, wrote, event_of, Stepped, Played};
+ghost use Rattle.simulation.specs.declared.event.Stop.TheVariants.{NoSuchClient};
 
 use crate::event::{Event, Interrupted, Sent, Stop};
 use crate::network::{message, was_drawn};
-use crate::time::{can_pass, pass_all, row_of};
-use lease::{Answer, Clock, Found, Holder, Keeper, Settings, Use};
+use crate::time::{can_pass, pass_all};
+use lease::{Clock, Found, Holder, Keeper, Settings, Use};
 use std::alloc::{AllocError, Global};
 
 // One server, its clients by their numbers, and all messages that were ever sent.
@@ -26,7 +27,7 @@ impl Simulation {
         ensures { IfOk result (λ x. (world_of x ≡ start) × (settings_in x ≡ settings_of settings) × (vec_len x.clients ≡ clients)) }
     {
         let keeper = Keeper::new(heap, settings)?;
-        let clients = vec![in heap; Holder::off(); clients as usize]?;
+        let clients = vec![in heap; Holder::off(); usize::from(clients)]?;
         Ok(Simulation {
             keeper,
             clients,
@@ -52,11 +53,16 @@ impl Simulation {
     pub fn in_use(&self, client: usize) -> Option<Use>
         ensures { option_map use_of result ≡ ((world_of self.now).clients client).holding.uses }
     {
-        if client >= self.clients.len() {
-            return None;
-        }
-        let x = self.clients[client];
-        x.holding().in_use()
+        let holder = self.clients.get(client)?;
+        holder.holding().in_use()
+    }
+
+    // The client of a number.
+    fn client(&self, client: u32) -> Result<Holder, Stop>
+        ensures { MatchResult result (λ x. (client < vec_len self.now.clients) × (x ≡ slice_index_or self.now.clients.items client x)) (λ stop. (stop ≡ NoSuchClient) × (vec_len self.now.clients ≤ client)) }
+    {
+        let holder = self.clients.get(client as usize);
+        holder.copied().ok_or(Stop::NoSuchClient)
     }
 
     fn pass(&mut self, server: u64, ticks: &[u64]) -> Result<(), Stop>
@@ -65,9 +71,7 @@ impl Simulation {
         if !can_pass(&self.clients, ticks) {
             return Err(Stop::CountExhausted);
         }
-        let Ok(()) = self.keeper.pass(server) else {
-            return Err(Stop::CountExhausted);
-        };
+        self.keeper.pass(server).map_err(|_| Stop::CountExhausted)?;
         pass_all(&mut self.clients, ticks);
         Ok(())
     }
@@ -75,42 +79,28 @@ impl Simulation {
     fn ask(&mut self, client: u32, nonce: u64, preferred: u16) -> Result<(), Stop>
         ensures { Stepped result (run.Asks client nonce preferred) self.old self.new }
     {
-        if client as usize >= self.clients.len() {
-            return Err(Stop::NoSuchClient);
-        }
+        let holder = self.client(client)?;
         if was_drawn(&self.sent, nonce) {
             return Ok(());
         }
-        let x = self.clients[client as usize];
-        let (after, asked) = x.ask(client, nonce, preferred);
-        let Some(request) = asked else {
-            return Ok(());
-        };
-        let Ok(()) = self.sent.push(Sent::Request(request)) else {
-            return Err(Stop::NoMemory);
-        };
-        self.clients[client as usize] = after;
+        let (after, asked) = holder.ask(client, nonce, preferred);
+        if let Some(request) = asked {
+            self.sent.push(Sent::Request(request))?;
+            self.clients[client as usize] = after;
+        }
         Ok(())
     }
 
     fn server_hears(&mut self, which: usize) -> Result<(), Stop>
         ensures { Stepped result (run.ServerHears which) self.old self.new }
     {
-        let Some(heard) = message(&self.sent, which) else {
-            return Ok(());
-        };
-        match heard {
-            Sent::Grant(_) => Ok(()),
-            Sent::Request(request) => {
-                let Ok(()) = self.sent.reserve(1) else {
-                    return Err(Stop::NoMemory);
-                };
-                if let Answer::Granted(grant) = self.keeper.request(request) {
-                    self.sent.push_reserved(Sent::Grant(grant));
-                }
-                Ok(())
+        if let Some(Sent::Request(request)) = message(&self.sent, which) {
+            self.sent.reserve(1)?;
+            if let Ok(Some(grant)) = self.keeper.request(request) {
+                self.sent.push_reserved(Sent::Grant(grant));
             }
         }
+        Ok(())
     }
 
     fn server_hears_and_crashes(
@@ -120,11 +110,9 @@ impl Simulation {
     ) -> Result<(), Stop>
         ensures { Stepped result (run.ServerHearsAndCrashes which (wrote interrupted)) self.old self.new }
     {
-        if let Interrupted::AfterTheLease = interrupted {
-            if let Some(heard) = message(&self.sent, which) {
-                if let Sent::Request(request) = heard {
-                    let _ = self.keeper.request(request);
-                }
+        if interrupted == Interrupted::AfterTheLease {
+            if let Some(Sent::Request(request)) = message(&self.sent, which) {
+                let _unsent = self.keeper.request(request);
             }
         }
         self.keeper.crash();
@@ -134,34 +122,21 @@ impl Simulation {
     fn client_hears(&mut self, client: u32, which: usize) -> Result<(), Stop>
         ensures { Stepped result (run.ClientHears client which) self.old self.new }
     {
-        if client as usize >= self.clients.len() {
-            return Err(Stop::NoSuchClient);
-        }
-        let Some(heard) = message(&self.sent, which) else {
-            return Ok(());
-        };
-        match heard {
-            Sent::Request(_) => Ok(()),
-            Sent::Grant(grant) => {
-                let x = self.clients[client as usize];
-                match x.hear(self.keeper.settings().term(), client, grant) {
-                    Ok(after) => self.clients[client as usize] = after,
-                    Err(_) => {}
-                }
-                Ok(())
+        let holder = self.client(client)?;
+        if let Some(Sent::Grant(grant)) = message(&self.sent, which) {
+            let term = self.keeper.settings().term();
+            if let Ok(after) = holder.hear(term, client, grant) {
+                self.clients[client as usize] = after;
             }
         }
+        Ok(())
     }
 
     fn client_starts(&mut self, client: u32, clock: u64) -> Result<(), Stop>
         ensures { Stepped result (run.ClientStarts client clock) self.old self.new }
     {
-        if client as usize >= self.clients.len() {
-            return Err(Stop::NoSuchClient);
-        }
-        let Ok(clock) = Clock::at(clock) else {
-            return Err(Stop::CountExhausted);
-        };
+        self.client(client)?;
+        let clock = Clock::try_from(clock).map_err(|_| Stop::CountExhausted)?;
         self.clients[client as usize] = Holder::start(clock);
         Ok(())
     }
@@ -169,11 +144,8 @@ impl Simulation {
     fn client_crashes(&mut self, client: u32) -> Result<(), Stop>
         ensures { Stepped result (run.ClientCrashes client) self.old self.new }
     {
-        if client as usize >= self.clients.len() {
-            return Err(Stop::NoSuchClient);
-        }
-        let x = self.clients[client as usize];
-        self.clients[client as usize] = x.crash();
+        let holder = self.client(client)?;
+        self.clients[client as usize] = holder.crash();
         Ok(())
     }
 
@@ -187,18 +159,16 @@ impl Simulation {
     fn server_restarts(&mut self, clock: u64, found: Found) -> Result<(), Stop>
         ensures { Stepped result (run.ServerRestarts clock (is_lost found)) self.old self.new }
     {
-        let Ok(clock) = Clock::at(clock) else {
-            return Err(Stop::CountExhausted);
-        };
+        let clock = Clock::try_from(clock).map_err(|_| Stop::CountExhausted)?;
         self.keeper.restart(clock, found);
         Ok(())
     }
 
-    fn step(&mut self, event: Event, ticks: &[u64]) -> Result<(), Stop>
-        ensures { Stepped result (event_of ticks.now event) self.old self.new }
+    fn step(&mut self, event: Event<'_>) -> Result<(), Stop>
+        ensures { Stepped result (event_of event.entry) self.old self.new }
     {
         match event {
-            Event::Pass { server, row } => self.pass(server, row_of(ticks, row)),
+            Event::Pass { server, ticks } => self.pass(server, ticks),
             Event::Ask {
                 client,
                 nonce,
@@ -218,16 +188,13 @@ impl Simulation {
     }
 
     // Plays events, one after the other, from any moment on. If the clocks agree as they should, no two clients use one address.
-    pub fn play(&mut self, events: &[Event], ticks: &[u64]) -> Result<(), Stop>
-        ensures played { (past : List run.Event) → world_of self.old ≡ run.world (settings_in self.old) past → Played result ticks.now events.now past self.old self.new }
+    pub fn play(&mut self, events: &[Event<'_>]) -> Result<(), Stop>
+        ensures played { (past : List run.Event) → world_of self.old ≡ run.world (settings_in self.old) past → Played result events.now past self.old self.new }
         ensures settings { settings_in self.new ≡ settings_in self.old }
         ensures clients { vec_len self.new.clients ≡ vec_len self.old.clients }
     {
         for event in events {
-            match self.step(*event, ticks) {
-                Ok(()) => {}
-                Err(stop) => return Err(stop),
-            }
+            self.step(*event)?;
         }
         Ok(())
     }

@@ -1,12 +1,10 @@
--- The numbers of splitmix64: the state after a state, and the number that a state gives.
+-- The number that SplitMix64 gives as it comes to a state: the first from the state before it.
 -- Assumes nothing.
-use Rattle.std.specs.Prelude.{ℕ, ◌+◌, ◌*◌, ◌/◌, ◌%◌, ◌^◌, bit_xor}
+use Rattle.std.specs.Prelude.{ℕ, ◌+◌, ◌-◌, ◌%◌, ◌^◌}
+use Rattle.rand_xoshiro.specs.SplitMix64.{mix_u64}
 
-abbrev pub after : ℕ → ℕ
-after s = (s + 0x9e3779b97f4a7c15) % 2 ^ 64
+abbrev pub before : ℕ → ℕ
+before s = (s + (2 ^ 64 - 0x9e3779b97f4a7c15)) % 2 ^ 64
 
 abbrev pub mixed : ℕ → ℕ
-mixed s =
-    let once : ℕ = (bit_xor s (s / 2 ^ 30) * 0xbf58476d1ce4e5b9) % 2 ^ 64 in
-    let twice : ℕ = (bit_xor once (once / 2 ^ 27) * 0x94d049bb133111eb) % 2 ^ 64 in
-    bit_xor twice (twice / 2 ^ 31)
+mixed s = (mix_u64 (before s)).0

@@ -1,10 +1,11 @@
 // What happens in a run, one act after the other.
-use crate::parties::SERVER;
+use crate::parties::{party_at, place_of};
 use crate::plan::{FIRST, SECOND};
 use crate::stage::Stage;
 use crate::tally::count;
 use lease::Grant;
 use std::alloc::AllocError;
+use system::{Party, Premise};
 use wire::Message;
 
 // A message brought so many ticks after it was sent is late.
@@ -23,35 +24,42 @@ const NEWEST: u64 = 50;
 const STRANGE_KIND: u64 = 32;
 
 impl Stage {
-    pub fn any_place(&mut self) -> usize {
-        let places = self.spans.len() as u64;
-        self.random.below(places) as usize
+    // The server's place is 0.
+    pub fn any_place(&mut self) -> u8 {
+        let places = usize::from(self.plan.clients).wrapping_add(1);
+        u8::try_from(self.random.index(places)).unwrap_or(0)
     }
 
-    pub fn any_client(&mut self) -> usize {
-        let clients = self.plan.clients as u64;
-        (self.random.below(clients) as usize).saturating_add(1)
+    fn any_party(&mut self) -> Party {
+        party_at(self.any_place())
     }
 
-    // The party at a place is told the settings.
-    fn settle(&mut self, place: usize) -> Result<(), AllocError> {
+    pub fn any_client(&mut self) -> u8 {
+        let clients = usize::from(self.plan.clients);
+        u8::try_from(self.random.index(clients))
+            .unwrap_or(0)
+            .saturating_add(1)
+    }
+
+    // A party is told the settings.
+    fn settle(&mut self, party: Party) -> Result<(), AllocError> {
         let message = Message::Settings {
             addresses: self.plan.addresses,
-            term: self.plan.term(place),
+            term: self.plan.term(place_of(party)),
             skew: self.plan.skew,
         };
-        self.bring(place, message)
+        self.bring(party, message)
     }
 
-    fn name(&mut self, place: usize) -> Result<(), AllocError> {
+    fn name(&mut self, place: u8) -> Result<(), AllocError> {
         let client = self.plan.number(place);
-        self.bring(place, Message::OwnNumber { client })
+        self.bring(Party::Client(place), Message::OwnNumber { client })
     }
 
-    fn lend_nonce(&mut self, place: usize) -> Result<(), AllocError> {
+    fn lend_nonce(&mut self, place: u8) -> Result<(), AllocError> {
         let nonce = self.plan.nonce(self.lent);
         self.lent = self.lent.wrapping_add(1);
-        self.bring(place, Message::Nonce { nonce })
+        self.bring(Party::Client(place), Message::Nonce { nonce })
     }
 
     // Which message under way is brought.
@@ -60,7 +68,7 @@ impl Stage {
         if self.random.percent(NEWEST) {
             return letters.saturating_sub(1);
         }
-        self.random.below(letters as u64) as usize
+        self.random.index(letters)
     }
 
     // The net brings a message, or loses it.
@@ -71,7 +79,7 @@ impl Stage {
         };
         if self.random.percent(self.plan.loss) {
             self.net.remove(i);
-            self.note_lost(letter);
+            self.tally.count_lost(letter);
             return Ok(());
         }
         if self.random.percent(self.plan.repeats) {
@@ -89,14 +97,15 @@ impl Stage {
         self.bring(to, letter.message)
     }
 
-    fn receiver(&mut self, to: usize) -> usize {
-        if to == FIRST && self.plan.breaks_number() && self.random.percent(50) {
-            return SECOND;
+    fn receiver(&mut self, to: Party) -> Party {
+        let first = to == Party::Client(FIRST);
+        if first && self.plan.breaks(Premise::Number) && self.random.percent(50) {
+            return Party::Client(SECOND);
         }
         if !self.random.percent(ASTRAY) {
             return to;
         }
-        let other = self.any_place();
+        let other = self.any_party();
         if other != to {
             count(&mut self.tally.astray);
         }
@@ -106,10 +115,7 @@ impl Stage {
     // A grant that nobody sent, for a request under way.
     fn forge(&mut self) -> Result<(), AllocError> {
         let i = self.any_letter();
-        let Some(letter) = self.net.get(i) else {
-            return Ok(());
-        };
-        let Message::Request(request) = letter.message else {
+        let Some(Message::Request(request)) = self.net.get(i).map(|letter| letter.message) else {
             return Ok(());
         };
         let address = self.random.below(u64::from(self.plan.addresses));
@@ -118,13 +124,15 @@ impl Stage {
             nonce: request.nonce,
             address: u16::try_from(address).unwrap_or(0),
         };
-        let to = self.plan.place(grant.client);
-        self.bring(to, Message::Grant(grant))
+        match self.plan.party(grant.client) {
+            Some(to) => self.bring(to, Message::Grant(grant)),
+            None => Ok(()),
+        }
     }
 
     // Bytes of no message: a kind that is nobody's, a kind with too few bytes, or none.
     fn bring_garbage(&mut self) -> Result<(), AllocError> {
-        let place = self.any_place();
+        let party = self.any_party();
         count(&mut self.tally.garbage);
         let strange = u8::try_from(STRANGE_KIND.wrapping_add(self.random.below(200))).unwrap_or(
             255,
@@ -132,27 +140,26 @@ impl Stage {
         let short = u8::try_from(self.random.below(9)).unwrap_or(0);
         let some = u8::try_from(self.random.below(256)).unwrap_or(0);
         match self.random.below(4) {
-            0 => self.bring_bytes(place, &[]),
-            1 => self.bring_bytes(place, &[short, some]),
-            2 => self.bring_bytes(place, &[strange]),
-            _ => self.bring_bytes(place, &[strange, some, some, short, some]),
+            0 => self.bring_bytes(party, &[]),
+            1 => self.bring_bytes(party, &[short, some]),
+            2 => self.bring_bytes(party, &[strange]),
+            _ => self.bring_bytes(party, &[strange, some, some, short, some]),
         }
     }
 
     // What a party knows already is told again, or what it doesn't know yet.
     fn tell(&mut self) -> Result<(), AllocError> {
-        let place = self.any_place();
-        if place != SERVER && self.random.percent(30) {
-            return self.name(place);
+        match self.any_party() {
+            Party::Client(place) if self.random.percent(30) => self.name(place),
+            party => self.settle(party),
         }
-        self.settle(place)
     }
 
     fn break_premise(&mut self) -> Result<(), AllocError> {
-        if self.plan.breaks_message() {
+        if self.plan.breaks(Premise::Message) {
             return self.forge();
         }
-        if self.plan.breaks_count() {
+        if self.plan.breaks(Premise::Count) {
             return self.wear_out();
         }
         Ok(())
@@ -169,6 +176,7 @@ impl Stage {
             let place = self.any_client();
             return self.lend_nonce(place);
         }
+        // A draw picks the act: the ranges say how many in a hundred.
         match self.random.below(100) {
             0 => self.bring_garbage(),
             1 | 2 => self.tell(),
@@ -180,17 +188,18 @@ impl Stage {
 
     // All are told what they need, but for some that hear of it later.
     fn begin(&mut self) -> Result<(), AllocError> {
-        for place in 0..self.spans.len() {
+        for place in 0..=self.plan.clients {
+            let party = party_at(place);
             if !self.random.percent(10) {
-                self.settle(place)?;
+                self.settle(party)?;
             }
-            if place != SERVER {
+            if let Party::Client(place) = party {
                 self.name(place)?;
                 self.lend_nonce(place)?;
                 self.lend_nonce(place)?;
             }
         }
-        self.judge();
+        self.parties.judge();
         Ok(())
     }
 
@@ -200,7 +209,7 @@ impl Stage {
         self.begin()?;
         for _ in 0..self.plan.acts {
             self.act()?;
-            self.judge();
+            self.parties.judge();
         }
         Ok(())
     }

@@ -1,8 +1,8 @@
 // Crashes and restarts.
-use crate::parties::SERVER;
 use crate::stage::Stage;
 use crate::tally::count;
 use std::alloc::AllocError;
+use system::Party;
 use wire::Message;
 
 // A clock that a client restarts with is below this.
@@ -15,20 +15,34 @@ const MOST_LEAP: u64 = 400;
 const LAST_CLOCK: u64 = (1 << 63) - 1;
 
 impl Stage {
-    fn crash_client(&mut self) -> Result<(), AllocError> {
-        let place = self.any_client();
+    // A client goes down if it is up.
+    fn count_client_crash(&mut self, place: u8) {
         if self.parties.is_client_up(place) {
             count(&mut self.tally.client_crashes);
         }
-        self.forget_span(place);
-        self.bring(place, Message::Crash)
+    }
+
+    fn count_server_crash(&mut self) {
+        if self.parties.is_server_up() {
+            count(&mut self.tally.server_crashes);
+        }
+    }
+
+    fn restart_with(&mut self, place: u8, clock: u64) -> Result<(), AllocError> {
+        self.parties.forget_span(place);
+        self.bring(Party::Client(place), Message::Restart { clock })
+    }
+
+    fn crash_client(&mut self) -> Result<(), AllocError> {
+        let place = self.any_client();
+        self.count_client_crash(place);
+        self.parties.forget_span(place);
+        self.bring(Party::Client(place), Message::Crash)
     }
 
     fn restart_client(&mut self) -> Result<(), AllocError> {
         let place = self.any_client();
-        if self.parties.is_client_up(place) {
-            count(&mut self.tally.client_crashes);
-        }
+        self.count_client_crash(place);
         count(&mut self.tally.client_restarts);
         let clock = match self.random.below(4) {
             0 => 0,
@@ -36,58 +50,39 @@ impl Stage {
             2 => self.parties.client_clock(place),
             _ => self.random.below(MOST_CLOCK),
         };
-        self.forget_span(place);
-        self.bring(place, Message::Restart { clock })
+        self.restart_with(place, clock)
     }
 
     fn crash_server(&mut self) -> Result<(), AllocError> {
-        if self.parties.is_server_up() {
-            count(&mut self.tally.server_crashes);
-        }
-        self.bring(SERVER, Message::Crash)
-    }
-
-    // How far the server's clock may go on alone.
-    fn server_room(&self) -> u64 {
-        let server = self.parties.server_clock();
-        let mut room = MOST_LEAP;
-        for place in 0..self.spans.len() {
-            if let Some(clock) = self.parties.running_clock(place) {
-                if let Some(span) = self.span(place) {
-                    room = room.min(span.server_room(self.plan.drift, clock, server));
-                }
-            }
-        }
-        room
+        self.count_server_crash();
+        self.bring(Party::Server, Message::Crash)
     }
 
     // The server comes back, and its clock went on meanwhile.
     pub fn restart_server(&mut self) -> Result<(), AllocError> {
-        if self.parties.is_server_up() {
-            count(&mut self.tally.server_crashes);
-        }
+        self.count_server_crash();
         count(&mut self.tally.server_restarts);
-        let room = self.server_room();
+        let room = self.parties.server_room(self.plan.drift, MOST_LEAP);
         let leap = match self.random.below(4) {
             0 => room,
             1 => self.random.below(room.saturating_add(1)),
             _ => 0,
         };
         let clock = self.parties.server_clock().saturating_add(leap);
-        self.bring(SERVER, Message::Restart { clock })
+        self.bring(Party::Server, Message::Restart { clock })
     }
 
     // A client comes back with a clock near its end.
     pub fn wear_out(&mut self) -> Result<(), AllocError> {
         let place = self.any_client();
         let clock = LAST_CLOCK.saturating_sub(self.random.below(9));
-        self.forget_span(place);
-        self.bring(place, Message::Restart { clock })
+        self.restart_with(place, clock)
     }
 
     pub fn crash_or_restart(&mut self) -> Result<(), AllocError> {
+        // A draw picks the act: the ranges say how many in twenty.
         match self.random.below(20) {
-            0 | 1 | 2 => self.crash_server(),
+            0..=2 => self.crash_server(),
             3 => self.restart_server(),
             4..=10 => self.crash_client(),
             _ => self.restart_client(),

@@ -20,7 +20,6 @@ use breaking::break_each;
 use printing::Printer;
 use run::run;
 use show::show;
-use std::io::Write;
 use std::process::ExitCode;
 use std::{env, io};
 use system::Line;
@@ -39,37 +38,21 @@ const SEED: u64 = 1;
 // After so many runs standard error is told how many there were.
 const NEWS: u64 = 10_000;
 
-// The program ends with status 1; why is told already.
-#[derive(Clone, Copy)]
-struct Ended;
-
-impl From<io::Error> for Ended {
-    fn from(_: io::Error) -> Ended {
-        Ended
-    }
-}
-
-impl From<std::alloc::AllocError> for Ended {
-    fn from(_: std::alloc::AllocError) -> Ended {
-        Ended
-    }
-}
-
 fn show_refused(rt: &HostRuntime, seed: u64, number: u64, line: Line) -> io::Result<()> {
     print!(rt; "seed {seed}, run {number}: ")?;
     let mut printer = Printer::new(rt.alloc());
     printer.put(line)?;
-    rt.stdout().write_all(&printer.text()?)
+    print!(rt; "{}", printer.text()?)
 }
 
-// Runs that keep every premise.
-fn keep_all(rt: &HostRuntime, runs: u64, seed: u64) -> Result<(), Ended> {
-    let mut tally = Tally::new();
+// Runs that keep every premise, and whether each is reported to.
+fn keep_all(rt: &HostRuntime, runs: u64, seed: u64) -> io::Result<bool> {
+    let mut tally = Tally::default();
     for number in 0..runs {
         let verdict = run(rt.alloc(), seed, number, None, &mut tally)?;
         if let Some(line) = verdict.refused() {
             show_refused(rt, seed, number, line)?;
-            return Err(Ended);
+            return Ok(false);
         }
         if number % NEWS == NEWS - 1 {
             eprintln!(rt; "{} runs", tally.runs)?;
@@ -77,50 +60,50 @@ fn keep_all(rt: &HostRuntime, runs: u64, seed: u64) -> Result<(), Ended> {
     }
     show(rt, &tally)?;
     println!(rt; "premises broken 0, addresses that two used 0")?;
-    Ok(())
+    Ok(true)
 }
 
-fn storm(rt: &HostRuntime, runs: u64, seed: u64) -> Result<(), Ended> {
-    keep_all(rt, runs, seed)?;
+fn storm(rt: &HostRuntime, runs: u64, seed: u64) -> io::Result<ExitCode> {
+    if !keep_all(rt, runs, seed)? {
+        return Ok(ExitCode::FAILURE);
+    }
     println!(rt; "with a premise broken on purpose:")?;
     if break_each(rt, seed)? {
-        return Ok(());
+        return Ok(ExitCode::SUCCESS);
     }
     println!(rt; "a broken premise was not reported")?;
-    Err(Ended)
+    Ok(ExitCode::FAILURE)
 }
 
-fn refuse(rt: &HostRuntime) -> Result<(), Ended> {
+fn refuse(rt: &HostRuntime) -> io::Result<ExitCode> {
     eprintln!(rt; "{USAGE}")?;
-    Err(Ended)
+    Ok(ExitCode::FAILURE)
 }
 
-fn obey(rt: &HostRuntime) -> Result<(), Ended> {
-    let mut args = env::args(rt)?;
-    let _program = args.next();
+fn obey(rt: &HostRuntime) -> io::Result<ExitCode> {
+    let mut args = env::args(rt)?.skip(1);
     let mut numbers = [RUNS, SEED];
-    for i in 0..2usize {
+    for number in &mut numbers {
         let Some(word) = args.next() else {
             break;
         };
         if word.as_str() == "--help" {
             println!(rt; "{USAGE}")?;
-            return Ok(());
+            return Ok(ExitCode::SUCCESS);
         }
-        let Ok(number) = word.as_str().parse::<u64>() else {
+        let Ok(given) = word.as_str().parse() else {
             return refuse(rt);
         };
-        numbers[i] = number;
+        *number = given;
     }
     if args.next().is_some() {
         return refuse(rt);
     }
-    storm(rt, numbers[0], numbers[1])
+    let [runs, seed] = numbers;
+    storm(rt, runs, seed)
 }
 
+// Where memory or standard output fails, or a run's script can't be read, nothing is told.
 fn main(rt: HostRuntime) -> ExitCode {
-    match obey(&rt) {
-        Ok(()) => ExitCode::SUCCESS,
-        Err(Ended) => ExitCode::FAILURE,
-    }
+    obey(&rt).unwrap_or(ExitCode::FAILURE)
 }

@@ -1,4 +1,6 @@
 use std::alloc::{AllocError, Global};
+use std::collections::VecDeque;
+use system::Party;
 use wire::Message;
 
 // So many messages are under way at most: the oldest are lost.
@@ -7,8 +9,7 @@ const MOST_LETTERS: usize = 48;
 // A message under way.
 #[derive(Clone, Copy)]
 pub struct Letter {
-    // the place of its receiver
-    pub to: usize,
+    pub to: Party,
     pub message: Message,
     // the server's clock when it was sent
     pub sent: u64,
@@ -19,13 +20,13 @@ pub struct Letter {
 // The messages under way, the oldest first.
 #[derive(Drop)]
 pub struct Net {
-    letters: Vec<Letter>,
+    letters: VecDeque<Letter>,
 }
 
 impl Net {
     pub fn new(heap: Global) -> Net {
         Net {
-            letters: Vec::new(heap),
+            letters: VecDeque::new(heap),
         }
     }
 
@@ -40,25 +41,22 @@ impl Net {
     // Takes a message up, and tells which was lost for it.
     pub fn put(&mut self, letter: Letter) -> Result<Option<Letter>, AllocError> {
         let lost = if self.letters.len() >= MOST_LETTERS {
-            self.remove(0)
+            self.letters.pop_front()
         } else {
             None
         };
-        self.letters.push(letter)?;
+        self.letters.push_back(letter)?;
         Ok(lost)
     }
 
-    pub fn remove(&mut self, i: usize) -> Option<Letter> {
-        if i < self.letters.len() {
-            return Some(self.letters.remove(i));
-        }
-        None
+    pub fn remove(&mut self, i: usize) {
+        let _letter = self.letters.remove(i);
     }
 
     // The message was brought, and stays.
     pub fn keep(&mut self, i: usize) {
-        if i < self.letters.len() {
-            self.letters[i].brought = self.letters[i].brought.saturating_add(1);
+        if let Some(letter) = self.letters.get_mut(i) {
+            letter.brought = letter.brought.saturating_add(1);
         }
     }
 }

@@ -1,75 +1,129 @@
+use crate::span::Span;
 use client::Client;
-use journal::{Journal, device_bytes, device_places};
+use journal::Journal;
 use server::{Effect, Server};
 use std::alloc::{AllocError, Global};
+use system::Party;
 use wire::Message;
 
-// The place of the server; the clients have those above.
-pub const SERVER: usize = 0;
+// A client, and how far its clock was ahead of the server's while both were up.
+#[derive(Drop)]
+struct Member {
+    client: Client,
+    span: Option<Span>,
+}
 
 // A server with a device of zeros and clients, and what one of them said last.
 #[derive(Drop)]
 pub struct Parties {
     server: Server,
-    clients: Vec<Client>,
+    // by their places, from 1 on
+    members: Vec<Member>,
     effects: Vec<Effect>,
     said: Vec<Message>,
 }
 
-fn blank_journal(heap: Global) -> Result<Journal, AllocError> {
-    let zeros = vec![in heap; 0u8; device_bytes()]?;
-    let room = Vec::with_capacity(heap, device_places())?;
-    match Journal::open(room, &zeros) {
-        Ok(journal) => Ok(journal),
-        Err(_) => Err(AllocError),
+// The place of a party in a script: the server's is 0.
+pub fn place_of(party: Party) -> u8 {
+    match party {
+        Party::Server => 0,
+        Party::Client(place) => place,
     }
 }
 
-fn put_sent(effects: &[Effect], said: &mut Vec<Message>) -> Result<(), AllocError> {
-    for effect in effects {
-        if let Effect::Send(message) = effect {
-            said.push(*message)?;
+pub fn party_at(place: u8) -> Party {
+    if place == 0 {
+        Party::Server
+    } else {
+        Party::Client(place)
+    }
+}
+
+// A client's place among the members.
+fn index_of(place: u8) -> Option<usize> {
+    usize::from(place).checked_sub(1)
+}
+
+impl Member {
+    // The client's clock, while it is up and has a number.
+    fn running_clock(&self) -> Option<u64> {
+        let runs = self.client.is_up() && self.client.own().is_some();
+        runs.then(|| self.client.clock().ticks())
+    }
+
+    // How far the server's clock may go on alone, as far as this client is concerned.
+    fn server_room(&self, drift: u64, server: u64) -> Option<u64> {
+        let clock = self.running_clock()?;
+        let span = self.span?;
+        Some(span.server_room(drift, clock, server))
+    }
+
+    fn judge(&mut self, server: u64) {
+        if let Some(clock) = self.running_clock() {
+            let now = Span::at(clock, server);
+            self.span = Some(self.span.map_or(now, |span| span.joined(now)));
         }
     }
-    Ok(())
 }
 
 impl Parties {
-    pub fn new(heap: Global, clients: usize) -> Result<Parties, AllocError> {
-        let journal = blank_journal(heap)?;
-        let mut all = Vec::new(heap);
+    pub fn new(heap: Global, clients: u8) -> Result<Parties, AllocError> {
+        let mut members = Vec::new(heap);
         for _ in 0..clients {
-            all.push(Client::new(heap))?;
+            members.push(Member {
+                client: Client::new(heap),
+                span: None,
+            })?;
         }
         Ok(Parties {
-            server: Server::new(heap, journal),
-            clients: all,
+            server: Server::new(heap, Journal::blank(heap)?),
+            members,
             effects: Vec::new(heap),
             said: Vec::new(heap),
         })
     }
 
-    // A message's bytes come to the party at a place.
-    pub fn hear(&mut self, place: usize, bytes: &[u8]) -> Result<(), AllocError> {
+    fn member(&self, place: u8) -> Option<&Member> {
+        self.members.get(index_of(place)?)
+    }
+
+    fn member_mut(&mut self, place: u8) -> Option<&mut Member> {
+        self.members.get_mut(index_of(place)?)
+    }
+
+    // A message's bytes come to a party.
+    pub fn hear(&mut self, party: Party, bytes: &[u8]) -> Result<(), AllocError> {
         self.said.clear();
-        if place == SERVER {
-            self.effects.clear();
-            self.server.hear(bytes, &mut self.effects)?;
-            return put_sent(&self.effects, &mut self.said);
+        match party {
+            Party::Server => self.server_hears(bytes),
+            Party::Client(place) => self.client_hears(place, bytes),
         }
-        if place <= self.clients.len() {
-            self.clients[place - 1].hear(bytes, &mut self.said)?;
+    }
+
+    fn server_hears(&mut self, bytes: &[u8]) -> Result<(), AllocError> {
+        self.effects.clear();
+        self.server.hear(bytes, &mut self.effects)?;
+        for effect in &self.effects {
+            if let Effect::Send(message) = effect {
+                self.said.push(*message)?;
+            }
         }
         Ok(())
     }
 
-    // A message that the party said last.
-    pub fn said(&self, i: usize) -> Option<Message> {
-        self.said.get(i).copied()
+    fn client_hears(&mut self, place: u8, bytes: &[u8]) -> Result<(), AllocError> {
+        let Some(i) = index_of(place) else {
+            return Ok(());
+        };
+        if let Some(member) = self.members.get_mut(i) {
+            member.client.hear(bytes, &mut self.said)?;
+        }
+        Ok(())
     }
 
-    pub fn said_len(&self) -> usize {
-        self.said.len()
+    // What the party said last.
+    pub fn said(&self) -> &[Message] {
+        &self.said
     }
 
     pub fn server_clock(&self) -> u64 {
@@ -81,28 +135,48 @@ impl Parties {
     }
 
     // The clock of a client that is up and has a number.
-    pub fn running_clock(&self, place: usize) -> Option<u64> {
-        if place == SERVER || place > self.clients.len() {
-            return None;
-        }
-        let client = &self.clients[place - 1];
-        if client.is_up() && client.own().is_some() {
-            return Some(client.clock().ticks());
-        }
-        None
+    pub fn running_clock(&self, place: u8) -> Option<u64> {
+        self.member(place)?.running_clock()
     }
 
-    pub fn client_clock(&self, place: usize) -> u64 {
-        if place == SERVER || place > self.clients.len() {
-            return 0;
-        }
-        self.clients[place - 1].clock().ticks()
+    pub fn client_clock(&self, place: u8) -> u64 {
+        self.member(place)
+            .map_or(0, |member| member.client.clock().ticks())
     }
 
-    pub fn is_client_up(&self, place: usize) -> bool {
-        if place == SERVER || place > self.clients.len() {
-            return false;
+    pub fn is_client_up(&self, place: u8) -> bool {
+        self.member(place)
+            .is_some_and(|member| member.client.is_up())
+    }
+
+    // Notes how far the clocks are apart, where the server is up.
+    pub fn judge(&mut self) {
+        if !self.is_server_up() {
+            return;
         }
-        self.clients[place - 1].is_up()
+        let server = self.server_clock();
+        for member in &mut self.members {
+            member.judge(server);
+        }
+    }
+
+    pub fn span(&self, place: u8) -> Option<Span> {
+        self.member(place)?.span
+    }
+
+    // A client begins anew.
+    pub fn forget_span(&mut self, place: u8) {
+        if let Some(member) = self.member_mut(place) {
+            member.span = None;
+        }
+    }
+
+    // How far the server's clock may go on alone, and at most so far.
+    pub fn server_room(&self, drift: u64, most: u64) -> u64 {
+        let server = self.server_clock();
+        self.members
+            .iter()
+            .filter_map(|member| member.server_room(drift, server))
+            .fold(most, |room, next| room.min(next))
     }
 }

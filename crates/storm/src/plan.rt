@@ -1,5 +1,5 @@
 use crate::random::Random;
-use system::Premise;
+use system::{Party, Premise};
 
 // How large runs are at most, and of how many passings of a hundred time leaps.
 #[derive(Clone, Copy)]
@@ -31,9 +31,9 @@ const MOST_SKEW: u64 = 20;
 const LEAST_CLIENTS: u64 = 2;
 
 // The places of the clients with which premises are broken.
-pub const FIRST: usize = 1;
+pub const FIRST: u8 = 1;
 
-pub const SECOND: usize = 2;
+pub const SECOND: u8 = 2;
 
 const LEAST_ACTS: u64 = 50;
 
@@ -42,12 +42,13 @@ const MOST_ACTS: u64 = 300;
 // What a run is like.
 #[derive(Clone, Copy)]
 pub struct Plan {
+    // the term that is told differs by party, so the three are no one value
     pub addresses: u16,
     pub term: u32,
     pub skew: u16,
     // how far a clock may run apart from the server's
     pub drift: u64,
-    pub clients: usize,
+    pub clients: u8,
     // the number of the client at place 0, and the nonce that is lent first
     pub first_number: u32,
     pub first_nonce: u64,
@@ -63,7 +64,7 @@ pub struct Plan {
     // of a hundred passings so many are as long as a lease lives
     pub leaps: u64,
     // the premise that the run breaks
-    pub breaks: Option<Premise>,
+    broken: Option<Premise>,
 }
 
 fn between(random: &mut Random, least: u64, most: u64) -> u64 {
@@ -71,23 +72,21 @@ fn between(random: &mut Random, least: u64, most: u64) -> u64 {
 }
 
 impl Plan {
-    pub fn draw(random: &mut Random, breaks: Option<Premise>) -> Plan {
+    pub fn draw(random: &mut Random, broken: Option<Premise>) -> Plan {
         let term = between(random, LEAST_TERM, MOST_TERM);
         let skew = between(random, 0, MOST_SKEW);
-        let drift = match breaks {
-            Some(Premise::Clocks) => skew.wrapping_add(term),
-            _ => skew,
+        let drift = if broken == Some(Premise::Clocks) {
+            skew.wrapping_add(term)
+        } else {
+            skew
         };
-        let scale = match breaks {
-            Some(_) => SMALL,
-            None => LARGE,
-        };
+        let scale = if broken.is_some() { SMALL } else { LARGE };
         Plan {
             addresses: u16::try_from(between(random, 1, scale.addresses)).unwrap_or(1),
             term: u32::try_from(term).unwrap_or(60),
             skew: u16::try_from(skew).unwrap_or(0),
             drift,
-            clients: between(random, LEAST_CLIENTS, scale.clients) as usize,
+            clients: u8::try_from(between(random, LEAST_CLIENTS, scale.clients)).unwrap_or(2),
             first_number: u32::try_from(random.below(1 << 32)).unwrap_or(0),
             first_nonce: random.next(),
             acts: between(random, LEAST_ACTS, MOST_ACTS),
@@ -96,56 +95,44 @@ impl Plan {
             crashes: random.below(12),
             nonces: between(random, 5, 25),
             leaps: scale.leaps,
-            breaks,
+            broken,
         }
     }
 
-    // Whether the run breaks this premise is asked by these.
-    pub fn breaks_message(&self) -> bool {
-        matches!(self.breaks, Some(Premise::Message))
-    }
-
-    pub fn breaks_number(&self) -> bool {
-        matches!(self.breaks, Some(Premise::Number))
-    }
-
-    pub fn breaks_count(&self) -> bool {
-        matches!(self.breaks, Some(Premise::Count))
+    pub fn breaks(&self, premise: Premise) -> bool {
+        self.broken == Some(premise)
     }
 
     // The number of the client at a place; two have one where the run breaks that.
-    pub fn number(&self, place: usize) -> u32 {
-        let place = match self.breaks {
-            Some(Premise::Number) => if place == SECOND { FIRST } else { place },
-            _ => place,
+    pub fn number(&self, place: u8) -> u32 {
+        let place = if self.breaks(Premise::Number) && place == SECOND {
+            FIRST
+        } else {
+            place
         };
-        self.first_number
-            .wrapping_add(u32::try_from(place).unwrap_or(0))
+        self.first_number.wrapping_add(u32::from(place))
     }
 
-    // The place of the client that has a number.
-    pub fn place(&self, number: u32) -> usize {
-        number.wrapping_sub(self.first_number) as usize
+    // The client that has a number.
+    pub fn party(&self, number: u32) -> Option<Party> {
+        let place = u8::try_from(number.wrapping_sub(self.first_number)).ok()?;
+        let clients = 1..=self.clients;
+        clients.contains(&place).then_some(Party::Client(place))
     }
 
     // The nonce that is lent after so many others; one for all where the run breaks that.
     pub fn nonce(&self, count: u64) -> u64 {
-        let count = match self.breaks {
-            Some(Premise::Nonce) => 0,
-            _ => count,
-        };
+        if self.breaks(Premise::Nonce) {
+            return self.first_nonce;
+        }
         self.first_nonce.wrapping_add(count)
     }
 
-    // The term that the client at a place is told; a long one to the first where the run breaks that.
-    pub fn term(&self, place: usize) -> u32 {
-        match self.breaks {
-            Some(Premise::Settings) => if place == FIRST {
-                self.term.wrapping_mul(4)
-            } else {
-                self.term
-            },
-            _ => self.term,
+    // The term that the party at a place is told; a long one to the first where the run breaks that.
+    pub fn term(&self, place: u8) -> u32 {
+        if self.breaks(Premise::Settings) && place == FIRST {
+            return self.term.wrapping_mul(4);
         }
+        self.term
     }
 }

@@ -1,49 +1,40 @@
 ghost use Rattle.std.specs.Prelude.{◌≡◌, ◌<◌};
-ghost use Rattle.storm.specs.Random.{after, mixed as mixes};
+ghost use Rattle.rand_xoshiro.specs.SplitMix64.{mix_u64};
+ghost use Rattle.storm.specs.Random.{mixed as mixes};
 
-// What the state goes on by, and what the mixing multiplies with: the numbers of splitmix64.
+use rand_core::SeedableRng;
+use rand_core::utils::NextWord;
+use rand_xoshiro::SplitMix64;
+
+// What the state of SplitMix64 goes on by.
 const STRIDE: u64 = 0x9e37_79b9_7f4a_7c15;
 
-const FIRST_FACTOR: u64 = 0xbf58_476d_1ce4_e5b9;
-
-const SECOND_FACTOR: u64 = 0x94d0_49bb_1331_11eb;
-
-// The next state.
-fn step(state: u64) -> u64
-    ensures { result ≡ after state }
-{
-    state.wrapping_add(STRIDE)
-}
-
-// The number that a state gives.
-pub fn mixed(state: u64) -> u64
+// The number that SplitMix64 gives as it comes to a state.
+fn mixed(state: u64) -> u64
     ensures { result ≡ mixes state }
 {
-    let once = (state ^ (state >> 30)).wrapping_mul(FIRST_FACTOR);
-    let twice = (once ^ (once >> 27)).wrapping_mul(SECOND_FACTOR);
-    twice ^ (twice >> 31)
+    SplitMix64::seed_from_u64(state.wrapping_sub(STRIDE)).next_word()
 }
 
-// Numbers that look drawn, the same in every run.
+// Numbers that look drawn, the same in every run. Draws below an end fit the type of the end: the default that stands where one is cut to it never comes.
 #[derive(Drop)]
 pub struct Random {
-    state: u64,
+    numbers: SplitMix64,
 }
 
 impl Random {
     // The numbers of one run among those of a seed.
     pub fn new(seed: u64, run: u64) -> Random {
+        let state = mixed(mixed(seed).wrapping_add(run));
         Random {
-            state: mixed(mixed(seed).wrapping_add(run)),
+            numbers: SplitMix64::seed_from_u64(state),
         }
     }
 
     pub fn next(&mut self) -> u64
-        ensures value { result ≡ mixes (after self.old.state) }
-        ensures after { self.new.state ≡ after self.old.state }
+        ensures { (result, self.new.numbers) ≡ mix_u64 self.old.numbers }
     {
-        self.state = step(self.state);
-        mixed(self.state)
+        self.numbers.next_word()
     }
 
     // A number below `end`; 0 if there is none.
@@ -52,6 +43,13 @@ impl Random {
     {
         let drawn = self.next();
         if end == 0 { 0 } else { drawn % end }
+    }
+
+    // A place in a list that has so many; 0 if it has none.
+    pub fn index(&mut self, len: usize) -> usize
+        ensures { 0 < len → result < len }
+    {
+        self.below(len as u64) as usize
     }
 
     // True so many times in a hundred.

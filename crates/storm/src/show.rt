@@ -43,12 +43,9 @@ fn show_net(rt: &HostRuntime, tally: &Tally) -> io::Result<()> {
 
 fn show_faults(rt: &HostRuntime, tally: &Tally) -> io::Result<()> {
     print!(rt; "refusals:")?;
-    for i in 1..10usize {
-        let times = tally.faults[i];
-        print!(rt; " fault {i} {times}")?;
-        if i < 9 {
-            print!(rt; ",")?;
-        }
+    for (number, times) in (1u8..).zip(tally.faults) {
+        let separator = if number > 1 { "," } else { "" };
+        print!(rt; "{separator} fault {number} {times}")?;
     }
     println!(rt; "")
 }

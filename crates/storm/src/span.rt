@@ -19,22 +19,23 @@ fn lead(client: u64, server: u64) -> u64 {
     client.wrapping_add(LEVEL).wrapping_sub(server)
 }
 
-// One moment more.
-pub fn widened(known: Option<Span>, client: u64, server: u64) -> Span {
-    let lead = lead(client, server);
-    match known {
-        Some(span) => Span {
-            least: span.least.min(lead),
-            most: span.most.max(lead),
-        },
-        None => Span {
+impl Span {
+    // From one moment on.
+    pub fn at(client: u64, server: u64) -> Span {
+        let lead = lead(client, server);
+        Span {
             least: lead,
             most: lead,
-        },
+        }
     }
-}
 
-impl Span {
+    pub fn joined(self, other: Span) -> Span {
+        Span {
+            least: self.least.min(other.least),
+            most: self.most.max(other.most),
+        }
+    }
+
     // How far a client's clock may go on while the server's comes to `server`.
     pub fn client_room(self, drift: u64, client: u64, server: u64) -> Room {
         let lead = lead(client, server);

@@ -1,11 +1,11 @@
 use crate::net::{Letter, Net};
-use crate::parties::{Parties, SERVER};
+use crate::parties::{Parties, place_of};
 use crate::plan::Plan;
 use crate::random::Random;
-use crate::span::{Span, widened};
 use crate::tally::{Tally, count};
 use lease::Grant;
 use std::alloc::{AllocError, Global};
+use system::Party;
 use wire::Message;
 
 // The parties of a run, the net between them, and the script of all that was brought to them.
@@ -17,17 +17,42 @@ pub struct Stage {
     pub script: Vec<u8>,
     pub parties: Parties,
     pub net: Net,
-    // by place: how far a client's clock was ahead of the server's
-    pub spans: Vec<Option<Span>>,
-    // by address: whose the last grant was
-    pub holders: Vec<Option<u32>>,
+    // by address from 0 on, so a list and no map: whose the last grant was
+    holders: Vec<Option<u32>>,
     // how many nonces were lent
     pub lent: u64,
     bytes: Vec<u8>,
 }
 
-fn who(place: usize) -> u8 {
-    u8::try_from(place).unwrap_or(0)
+// Notes whose an address is now.
+fn note_grant(holders: &mut [Option<u32>], tally: &mut Tally, grant: Grant) {
+    count(&mut tally.grants);
+    if let Some(holder) = holders.get_mut(usize::from(grant.address)) {
+        if holder.is_some_and(|last| last != grant.client) {
+            count(&mut tally.lent_on);
+        }
+        *holder = Some(grant.client);
+    }
+}
+
+// Counts what a party said once it heard a message. A use that ends at a tick has expired.
+fn note(holders: &mut [Option<u32>], tally: &mut Tally, heard: Message, said: Message) {
+    match said {
+        Message::Request(_) => count(&mut tally.requests),
+        Message::Grant(grant) => note_grant(holders, tally, grant),
+        Message::InUse { .. } => count(&mut tally.taken),
+        Message::NoAddress if matches!(heard, Message::Tick) => count(&mut tally.expired),
+        _ => {}
+    }
+}
+
+// Who a message is for.
+fn receiver_of(plan: &Plan, message: Message) -> Option<Party> {
+    match message {
+        Message::Request(_) => Some(Party::Server),
+        Message::Grant(grant) => plan.party(grant.client),
+        _ => None,
+    }
 }
 
 impl Stage {
@@ -37,138 +62,70 @@ impl Stage {
         random: Random,
         tally: Tally,
     ) -> Result<Stage, AllocError> {
-        let parties = Parties::new(heap, plan.clients)?;
-        let spans = vec![in heap; None; plan.clients.saturating_add(1)]?;
-        let holders = vec![in heap; None; usize::from(plan.addresses)]?;
         Ok(Stage {
             plan,
             random,
             tally,
             script: Vec::new(heap),
-            parties,
+            parties: Parties::new(heap, plan.clients)?,
             net: Net::new(heap),
-            spans,
-            holders,
+            holders: vec![in heap; None; usize::from(plan.addresses)]?,
             lent: 0,
             bytes: Vec::new(heap),
         })
     }
 
-    // A message comes to the party at a place.
-    pub fn bring(&mut self, place: usize, message: Message) -> Result<(), AllocError> {
+    // A message comes to a party.
+    pub fn bring(&mut self, party: Party, message: Message) -> Result<(), AllocError> {
         self.bytes.clear();
         message.encode(&mut self.bytes)?;
-        self.script.push(who(place))?;
+        self.script.push(place_of(party))?;
         self.script.extend_from_slice(&self.bytes)?;
         count(&mut self.tally.entries);
         if let Some((_, body)) = self.bytes.split_first() {
-            self.parties.hear(place, body)?;
+            self.parties.hear(party, body)?;
         }
         self.take_up(message)
     }
 
-    // Bytes that are no message come to the party at a place.
-    pub fn bring_bytes(&mut self, place: usize, bytes: &[u8]) -> Result<(), AllocError> {
+    // Bytes that are no message come to a party.
+    pub fn bring_bytes(&mut self, party: Party, bytes: &[u8]) -> Result<(), AllocError> {
         let Ok(len) = u8::try_from(bytes.len()) else {
             return Ok(());
         };
-        self.script.push(who(place))?;
+        self.script.push(place_of(party))?;
         self.script.push(len)?;
         self.script.extend_from_slice(bytes)?;
         count(&mut self.tally.entries);
-        self.parties.hear(place, bytes)
+        self.parties.hear(party, bytes)
     }
 
-    // What a party said goes into the net.
+    // What a party said goes into the net, if it is for anybody.
     fn take_up(&mut self, heard: Message) -> Result<(), AllocError> {
-        for i in 0..self.parties.said_len() {
-            let Some(message) = self.parties.said(i) else {
-                break;
+        let Stage {
+            plan,
+            tally,
+            parties,
+            net,
+            holders,
+            ..
+        } = self;
+        let sent = parties.server_clock();
+        for message in parties.said() {
+            note(holders, tally, heard, *message);
+            let Some(to) = receiver_of(plan, *message) else {
+                continue;
             };
-            match message {
-                Message::Request(_) => {
-                    count(&mut self.tally.requests);
-                    self.send(SERVER, message)?;
-                }
-                Message::Grant(grant) => {
-                    self.note_grant(grant);
-                    let to = self.plan.place(grant.client);
-                    self.send(to, message)?;
-                }
-                Message::InUse { .. } => count(&mut self.tally.taken),
-                Message::NoAddress => self.note_end(heard),
-                _ => {}
+            let letter = Letter {
+                to,
+                message: *message,
+                sent,
+                brought: 0,
+            };
+            if let Some(lost) = net.put(letter)? {
+                tally.count_lost(lost);
             }
         }
         Ok(())
-    }
-
-    // A use that ends at a tick has expired.
-    fn note_end(&mut self, heard: Message) {
-        if let Message::Tick = heard {
-            count(&mut self.tally.expired);
-        }
-    }
-
-    fn send(&mut self, to: usize, message: Message) -> Result<(), AllocError> {
-        let letter = Letter {
-            to,
-            message,
-            sent: self.parties.server_clock(),
-            brought: 0,
-        };
-        if let Some(lost) = self.net.put(letter)? {
-            self.note_lost(lost);
-        }
-        Ok(())
-    }
-
-    pub fn note_lost(&mut self, letter: Letter) {
-        if letter.brought == 0 {
-            count(&mut self.tally.lost);
-        }
-    }
-
-    fn note_grant(&mut self, grant: Grant) {
-        count(&mut self.tally.grants);
-        let address = usize::from(grant.address);
-        if address >= self.holders.len() {
-            return;
-        }
-        if let Some(holder) = self.holders[address] {
-            if holder != grant.client {
-                count(&mut self.tally.lent_on);
-            }
-        }
-        self.holders[address] = Some(grant.client);
-    }
-
-    // Notes how far the clocks are apart, where the server is up.
-    pub fn judge(&mut self) {
-        if !self.parties.is_server_up() {
-            return;
-        }
-        let server = self.parties.server_clock();
-        for place in 0..self.spans.len() {
-            if let Some(clock) = self.parties.running_clock(place) {
-                if place < self.spans.len() {
-                    self.spans[place] = Some(widened(self.spans[place], clock, server));
-                }
-            }
-        }
-    }
-
-    pub fn span(&self, place: usize) -> Option<Span> {
-        if place < self.spans.len() {
-            return self.spans[place];
-        }
-        None
-    }
-
-    // A client begins anew.
-    pub fn forget_span(&mut self, place: usize) {
-        if place < self.spans.len() {
-            self.spans[place] = None;
-        }
     }
 }

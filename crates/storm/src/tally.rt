@@ -1,10 +1,11 @@
+use crate::net::Letter;
 use lease::Fault;
 
-// One for each fault number, and 0 that is none.
-const FAULTS: usize = 10;
+// How many faults there are; they are numbered from 1 on.
+const FAULTS: usize = 9;
 
 // What happened in runs, in numbers.
-#[derive(Clone, Copy)]
+#[derive(Clone, Copy, Default)]
 pub struct Tally {
     pub runs: u64,
     pub entries: u64,
@@ -26,6 +27,7 @@ pub struct Tally {
     pub expired: u64,
     // grants of an address whose last grant was another client's
     pub lent_on: u64,
+    // by the faults' numbers, which are 1 to 9
     pub faults: [u64; FAULTS],
 }
 
@@ -33,33 +35,17 @@ pub fn count(n: &mut u64) {
     *n = n.saturating_add(1);
 }
 
-pub fn count_fault(faults: &mut [u64; FAULTS], fault: Fault) {
-    let i = usize::from(fault.number());
-    if i < FAULTS {
-        faults[i] = faults[i].saturating_add(1);
-    }
-}
-
 impl Tally {
-    pub fn new() -> Tally {
-        Tally {
-            runs: 0,
-            entries: 0,
-            requests: 0,
-            grants: 0,
-            taken: 0,
-            client_crashes: 0,
-            client_restarts: 0,
-            server_crashes: 0,
-            server_restarts: 0,
-            lost: 0,
-            repeated: 0,
-            late: 0,
-            astray: 0,
-            garbage: 0,
-            expired: 0,
-            lent_on: 0,
-            faults: [0; FAULTS],
+    pub fn count_fault(&mut self, fault: Fault) {
+        let i = usize::from(fault.number()).wrapping_sub(1);
+        if let Some(times) = self.faults.get_mut(i) {
+            count(times);
+        }
+    }
+
+    pub fn count_lost(&mut self, letter: Letter) {
+        if letter.brought == 0 {
+            count(&mut self.lost);
         }
     }
 }

@@ -1,8 +1,9 @@
 // Ticks.
-use crate::parties::SERVER;
+use crate::parties::party_at;
 use crate::span::Room;
 use crate::stage::Stage;
 use std::alloc::AllocError;
+use system::Party;
 use wire::Message;
 
 // So many ticks pass at most in one act, but for a leap.
@@ -10,17 +11,17 @@ const MOST_TICKS: u64 = 6;
 
 impl Stage {
     // How many ticks a client hears while the server's clock comes to `server`.
-    fn ticks_of(&mut self, place: usize, ticks: u64, server: u64) -> u64 {
+    fn ticks_of(&mut self, place: u8, ticks: u64, server: u64) -> u64 {
         let Some(clock) = self.parties.running_clock(place) else {
             return ticks;
         };
-        let room = match self.span(place) {
-            Some(span) => span.client_room(self.plan.drift, clock, server),
-            None => Room {
-                least: ticks,
-                most: ticks,
-            },
+        let alike = Room {
+            least: ticks,
+            most: ticks,
         };
+        let drift = self.plan.drift;
+        let span = self.parties.span(place);
+        let room = span.map_or(alike, |span| span.client_room(drift, clock, server));
         let drawn = match self.random.below(5) {
             0 => room.least,
             1 => room.most,
@@ -36,17 +37,15 @@ impl Stage {
     // Time passes for all, from some party on: one run of ticks.
     fn pass(&mut self, ticks: u64) -> Result<(), AllocError> {
         let server = self.parties.server_clock().saturating_add(ticks);
-        let places = self.spans.len();
         let first = self.any_place();
-        for k in 0..places {
-            let place = first.wrapping_add(k) % places;
-            let heard = if place == SERVER {
-                ticks
-            } else {
-                self.ticks_of(place, ticks, server)
+        for place in (first..=self.plan.clients).chain(0..first) {
+            let party = party_at(place);
+            let heard = match party {
+                Party::Server => ticks,
+                Party::Client(place) => self.ticks_of(place, ticks, server),
             };
             for _ in 0..heard {
-                self.bring(place, Message::Tick)?;
+                self.bring(party, Message::Tick)?;
             }
         }
         Ok(())

@@ -1,8 +1,8 @@
-use crate::tally::{Tally, count_fault};
+use crate::tally::Tally;
 use system::{Line, Premise};
 
 // What a report says of the promise and its premises.
-#[derive(Clone, Copy)]
+#[derive(Clone, Copy, Default)]
 pub struct Verdict {
     pub broken: Option<Premise>,
     // an address that two used
@@ -12,25 +12,20 @@ pub struct Verdict {
 impl Verdict {
     // Reads a report, and counts the faults in it.
     pub fn of(report: &[Line], tally: &mut Tally) -> Verdict {
-        let mut broken = None;
-        let mut two = None;
+        let mut verdict = Verdict::default();
         for line in report {
-            match line {
-                Line::Fault(_, fault) => count_fault(&mut tally.faults, *fault),
-                Line::Broken(premise) => broken = Some(*premise),
-                Line::Two { .. } => two = Some(*line),
-                Line::Tick { .. } => {}
-                Line::User { .. } => {}
+            match *line {
+                Line::Fault(_, fault) => tally.count_fault(fault),
+                Line::Broken(premise) => verdict.broken = Some(premise),
+                Line::Two { .. } => verdict.two = Some(*line),
+                Line::Tick { .. } | Line::User { .. } => {}
             }
         }
-        Verdict { broken, two }
+        verdict
     }
 
     // The line for which a run within the premises is refused.
     pub fn refused(self) -> Option<Line> {
-        match self.broken {
-            Some(premise) => Some(Line::Broken(premise)),
-            None => self.two,
-        }
+        self.broken.map(Line::Broken).or(self.two)
     }
 }

@@ -1,13 +1,13 @@
 -- Bytes as whole messages with something unfinished behind them.
-use Rattle.std.proofs.Common.{◌≡◌, ℕ, zero, suc, ◌<◌, ◌≤◌, Bool, true, false, not, eqb, ltb, List, [], ◌∷◌, ◌++◌, length, get_or, take, drop, sym, refl, ap, ◌∙◌, subst, ap₂, arith, length-append, length-drop, Bor}
+use Rattle.std.proofs.Common.{◌≡◌, ℕ, zero, suc, ◌<◌, ◌≤◌, Bool, true, false, not, eqb, ltb, List, [], ◌∷◌, ◌++◌, length, get_or, take, drop, sym, refl, ap, ◌∙◌, subst, ap₂, arith, length-append, length-drop}
 use Rattle.std.proofs.lemmas.List.{append-nil, append_assoc, drop_at, take_at, take-append-drop, length-take-le}
+use Rattle.std.proofs.lemmas.Grind.{flat_map-append}
+use Rattle.std.proofs.Math.Seq.{get_or-append_seam}
 use Rattle.std.proofs.lemmas.Bool.{ltb-true, ltb-false, ne_eqb}
 use Rattle.std.specs.List.{flat_map}
 use Rattle.wire.proofs.Streams.{delivered, held_cut, held_first, held_none}
-use Rattle.wire.specs.declared.stream.Next.{Next}
-use Rattle.wire.specs.declared.stream.Next.TheVariants.{Message, End, Cut}
-use Rattle.wire.specs.Stream.{Held, Reads, framed, held}
-use Rattle.stream.specs.Whole.{whole, behind, Delivers, Fails}
+use Rattle.wire.specs.Stream.{Held, framed, held}
+use Rattle.stream.specs.Whole.{whole, behind, Fails}
 use Rattle.stream.specs.Chunks.{handed, left, same, ChunksDeliver, EndTells}
 
 -- not a whole message yet
@@ -105,11 +105,6 @@ pub record Handed {S : Type 0} (went : S → List (List ℕ) → S → Type 0) (
   pub split : s ≡ flat_map framed messages ++ r
   pub heard : went a messages b
 
-joined_last : (ms : List (List ℕ)) (m : List ℕ) → flat_map framed (ms ++ (m ∷ [])) ≡ flat_map framed ms ++ framed m
-joined_last [] m = append-nil (framed m)
-joined_last (x ∷ ms) m =
-    ap (λ (y : List ℕ). framed x ++ y) (joined_last ms m) ∙ sym (append_assoc (framed x) (flat_map framed ms) (framed m))
-
 pub handed-more : {S : Type 0} (went : S → List (List ℕ) → S → Type 0)
     → ((a b c : S) (ms : List (List ℕ)) (m : List ℕ) → went a ms b → went b (m ∷ []) c → went a (ms ++ (m ∷ [])) c)
     → (s : List ℕ) (a b c : S) (r m rest : List ℕ) → Handed went s a r b → r ≡ framed m ++ rest → went b (m ∷ []) c → Handed went s a rest c
@@ -118,14 +113,9 @@ handed-more went goes s a b c r m rest h e w =
     record {
       messages = ms ++ (m ∷ []);
       split =
-          h.split ∙ (ap (λ (x : List ℕ). flat_map framed ms ++ x) e
-          ∙ (sym (append_assoc (flat_map framed ms) (framed m) rest) ∙ ap (λ (x : List ℕ). x ++ rest) (sym (joined_last ms m))));
+          h.split ∙ (ap (λ (x : List ℕ). flat_map framed ms ++ x) e ∙ sym (simp (flat_map-append, append-nil, append_assoc)));
       heard = goes a b c ms m h.heard w;
     }
-
-get_or_behind : (ms : List (List ℕ)) (m : List ℕ) (rest : List (List ℕ)) → get_or (ms ++ (m ∷ rest)) (length ms) [] ≡ m
-get_or_behind [] m rest = refl
-get_or_behind (x ∷ ms) m rest = get_or_behind ms m rest
 
 pub fails : {S : Type 0} (went : S → List (List ℕ) → S → Type 0) (stopped : S → List ℕ → S → Type 0)
     → (s : List ℕ) (a b c : S) (r m rest : List ℕ) → Handed went s a r b → r ≡ framed m ++ rest → stopped b m c → Fails went stopped s a c
@@ -139,18 +129,5 @@ fails went stopped s a b c r m rest h e x =
       some = omega (arith, ap length w, length-append ms (m ∷ whole rest));
       between = b;
       heard = subst (λ (y : List (List ℕ)). went a y b) (sym (ap (take (length ms)) w ∙ take_at ms (m ∷ whole rest) (length ms) refl)) h.heard;
-      failed = subst (λ (y : List ℕ). stopped b y c) (sym (ap (λ (y : List (List ℕ)). get_or y (length ms) []) w ∙ get_or_behind ms m (whole rest))) x;
+      failed = subst (λ (y : List ℕ). stopped b y c) (sym (ap (λ (y : List (List ℕ)). get_or y (length ms) []) w ∙ get_or-append_seam ms m (whole rest) [])) x;
     }
-
-pub delivers : {S : Type 0} (went : S → List (List ℕ) → S → Type 0) → (s : List ℕ) (a b : S) (r : List ℕ)
-    → Handed went s a r b → whole r ≡ [] → Delivers went s a (length r) b
-delivers went s a b r h n = (
-  subst (λ (y : List (List ℕ)). went a y b) (sym (divided s h.messages r h.split n)) h.heard,
-  sym (ap length (behind-is s h.messages r h.split n)),
-)
-
--- bytes that do not begin with a message
-pub unread : (s : List ℕ) (next : Next) → Reads s next → ((bytes rest : Bor (List ℕ)) → next ≡ Message bytes rest → ⊥) → whole s ≡ []
-unread s (Message bytes rest) r no-message = absurd (no-message bytes rest refl)
-unread s End r no-message = ap (λ (h : Held). h.messages) r.holds
-unread s Cut r no-message = ap (λ (h : Held). h.messages) r.holds

@@ -1,3 +1,4 @@
 pub mod Chunks
 pub mod Said
 pub mod Whole
+pub mod Words

@@ -25,7 +25,7 @@ pub record Fails {S : Type 0} (went : S → List (List ℕ) → S → Type 0) (s
   pub heard : went a (take count (whole s)) between
   pub failed : stopped between (slice_index_or (whole s) count []) c
 
--- all that these bytes hold was handed on and the rest is kept; or a message could not be heard; or there was no memory, and then all or nothing was handed on
+-- all that these bytes hold was handed on and the rest is kept; or a message could not be heard; or there was no memory, and nothing was handed on
 abbrev pub Feeds : {S : Type 0} → (S → List (List ℕ) → S → Type 0) → (S → List ℕ → S → Type 0) → List ℕ → S → Result Unit Stop → S → List ℕ → Type 0
 Feeds went stopped s a (Ok x) b kept = went a (whole s) b × (kept ≡ behind s)
-Feeds went stopped s a (Err e) b kept = Fails went stopped s a b ⊎ ((e ≡ NoMemory) × (went a [] b ⊎ went a (whole s) b))
+Feeds went stopped s a (Err e) b kept = Fails went stopped s a b ⊎ ((e ≡ NoMemory) × went a [] b)

@@ -1,5 +1,4 @@
-ghost use Rattle.std.specs.Prelude.{◌≡◌, ◌-◌, ◌≤◌, not, [], ◌++◌, length, drop, vec_len, MatchResult, ◌==◌};
-ghost use Rattle.stream.specs.declared.hearer.Stop.TheVariants.{NoMemory};
+ghost use Rattle.std.specs.Prelude.{◌≡◌, not, [], ◌++◌, length, MatchResult, ◌==◌};
 ghost use Rattle.stream.specs.Whole.{Delivers, Fails, Feeds};
 
 use crate::hearer::{Hearer, Stop};
@@ -18,9 +17,7 @@ fn deliver<H: Hearer>(stream: &[u8], to: &mut H) -> Result<usize, Stop>
 {
     let mut rest = stream;
     while let Next::Message { bytes, rest: after } = next_message(rest) {
-        if let Err(stop) = to.hear(bytes) {
-            return Err(stop);
-        }
+        to.hear(bytes)?;
         rest = after;
     }
     Ok(rest.len())
@@ -39,25 +36,10 @@ impl Inbox {
     pub fn feed<H: Hearer>(&mut self, chunk: &[u8], to: &mut H) -> Result<(), Stop>
         ensures { Feeds H.Hearer.went H.Hearer.stopped (self.old.bytes.items ++ chunk.now) to.old result to.new self.new.bytes.items }
     {
-        if self.bytes.extend_from_slice(chunk).is_err() {
-            return Err(Stop::NoMemory);
-        }
+        self.bytes.extend_from_slice(chunk)?;
         let left = deliver(&self.bytes, to)?;
-        self.keep(left)
-    }
-
-    // Keeps the last so many bytes.
-    fn keep(&mut self, left: usize) -> Result<(), Stop>
-        requires { left ≤ vec_len self.old.bytes }
-        ensures { MatchResult result (λ _. self.new.bytes.items ≡ drop (vec_len self.old.bytes - left) self.old.bytes.items) (λ e. e ≡ NoMemory) }
-    {
-        match self.bytes.split_off(self.bytes.len() - left) {
-            Ok(rest) => {
-                self.bytes = rest;
-                Ok(())
-            }
-            Err(_) => Err(Stop::NoMemory),
-        }
+        self.bytes.drain(..self.bytes.len() - left);
+        Ok(())
     }
 
     // Whether the stream, if it ends here, ends within a message.

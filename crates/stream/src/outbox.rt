@@ -1,4 +1,4 @@
-ghost use Rattle.std.specs.Prelude.{◌≡◌, [], ◌++◌, is_ok, if◌then◌else◌, MatchResult};
+ghost use Rattle.std.specs.Prelude.{◌≡◌, [], ◌++◌, is_ok, if◌then◌else◌, IfErr, MatchResult};
 ghost use Rattle.stream.specs.declared.hearer.Stop.TheVariants.{NoMemory};
 ghost use Rattle.stream.specs.Said.{spoken, written, SaidInPart};
 
@@ -8,7 +8,7 @@ use std::io;
 use std::io::{Stdout, Write};
 use wire::Message;
 
-// Messages that were put out and are not yet written.
+// Messages that were put out and are not yet written. It is no `BufWriter`: after a write that failed all of them are still here, which std says of no writer.
 #[derive(Drop)]
 pub struct Outbox {
     bytes: Vec<u8>,
@@ -26,12 +26,11 @@ impl Outbox {
     }
 
     pub fn put(&mut self, message: Message) -> Result<(), Stop>
-        ensures { self.new.bytes.items ≡ (if is_ok result then self.old.bytes.items ++ written message else self.old.bytes.items) }
+        ensures items { self.new.bytes.items ≡ (if is_ok result then self.old.bytes.items ++ written message else self.old.bytes.items) }
+        ensures stop { IfErr result (λ e. e ≡ NoMemory) }
     {
-        match message.encode(&mut self.bytes) {
-            Ok(()) => Ok(()),
-            Err(_) => Err(Stop::NoMemory),
-        }
+        message.encode(&mut self.bytes)?;
+        Ok(())
     }
 
     // Puts messages out in order; where the memory for one is wanting, none behind it.
@@ -39,9 +38,7 @@ impl Outbox {
         ensures { MatchResult result (λ _. self.new.bytes.items ≡ self.old.bytes.items ++ spoken messages.now) (λ e. (e ≡ NoMemory) × SaidInPart messages.now self.old.bytes.items self.new.bytes.items) }
     {
         for message in messages {
-            if self.put(*message).is_err() {
-                return Err(Stop::NoMemory);
-            }
+            self.put(*message)?;
         }
         Ok(())
     }

@@ -1,24 +1,28 @@
-ghost use Rattle.std.specs.Prelude.{◌≤◌, length, IfOk};
+ghost use Rattle.std.specs.Prelude.{◌≡◌, ◌≤◌, length, IfOk};
+ghost use Rattle.stream.specs.Words.{halt_words};
+ghost use Rattle.stream.specs.declared.hearer.Stop.TheVariants.{NoMemory};
+ghost use Rattle.stream.specs.declared.speaker.Halt.TheVariants.{Stopped};
 
 use crate::hearer::{Hearer, Stop};
 use crate::inbox::Inbox;
-use std::io;
+use crate::outbox::Outbox;
+use std::alloc::AllocError;
+use std::error::Error;
 use std::io::{ErrorKind, Read};
+use std::{fmt, io};
+use wire::{Fault, Message};
 
 // So many bytes are read at once; a pipe holds as many.
 const CHUNK: usize = 65_536;
 
 // A hearer that puts messages out.
 pub trait Speaker: Hearer {
-    // The stream ended within a message.
-    fn tell_cut(&mut self) -> Result<(), Stop>;
-
-    // Writes what was put out.
-    fn flush(&mut self) -> io::Result<()>;
+    // What it put out and is not yet written.
+    fn outbox(&mut self) -> &mut Outbox;
 }
 
 // Why a program ended before its input did.
-#[derive(Clone, Copy)]
+#[derive(Clone, Copy, Debug)]
 pub enum Halt {
     Stopped(Stop),
     Input(io::Error),
@@ -26,47 +30,52 @@ pub enum Halt {
 }
 
 impl From<Stop> for Halt {
+    ghost from_gives = { λ stop halt. halt ≡ Stopped stop };
+
     fn from(stop: Stop) -> Halt {
         Halt::Stopped(stop)
     }
 }
 
+impl From<AllocError> for Halt {
+    ghost from_gives = { λ _ halt. halt ≡ Stopped NoMemory };
+
+    fn from(error: AllocError) -> Halt {
+        Halt::Stopped(Stop::from(error))
+    }
+}
+
+impl fmt::Display for Halt {
+    ghost output = { halt_words };
+
+    fn fmt<W: fmt::Write>(&self, f: &mut fmt::Formatter<W>) -> fmt::Result {
+        match self {
+            Halt::Stopped(stop) => write!(f, "{stop}"),
+            Halt::Input(error) => write!(f, "standard input: {error}"),
+            Halt::Output(error) => write!(f, "standard output: {error}"),
+        }
+    }
+}
+
+impl Error for Halt {}
+
 // Reads what is at hand, or waits for it; 0 is the end of the input.
 fn read_some(input: &mut impl Read, chunk: &mut [u8]) -> Result<usize, Halt>
     ensures { IfOk result (λ n. n ≤ length chunk.old) }
 {
+    // A bound, since a loop that waits for input has none of its own to end by.
     for _ in 0..u64::MAX {
         match input.read(chunk) {
-            Ok(count) => return Ok(count),
-            Err(e) => {
-                if e.kind() != ErrorKind::Interrupted {
-                    return Err(Halt::Input(e));
-                }
-            }
+            Err(error) if error.kind() == ErrorKind::Interrupted => {}
+            read => return read.map_err(Halt::Input),
         }
     }
     Ok(0)
 }
 
-fn flushed<S: Speaker>(speaker: &mut S) -> Result<(), Halt> {
-    match speaker.flush() {
-        Ok(()) => Ok(()),
-        Err(e) => Err(Halt::Output(e)),
-    }
-}
-
-fn end<S: Speaker>(inbox: &Inbox, speaker: &mut S) -> Result<(), Halt> {
-    if inbox.is_cut() {
-        speaker.tell_cut()?;
-    }
-    flushed(speaker)
-}
-
 // Hears standard input to its end; what is put out is written whenever no more input is at hand.
 pub fn serve<S: Speaker>(rt: &HostRuntime, speaker: &mut S) -> Result<(), Halt> {
-    let Ok(mut chunk) = vec![in rt.alloc(); 0u8; CHUNK] else {
-        return Err(Halt::Stopped(Stop::NoMemory));
-    };
+    let mut chunk = vec![in rt.alloc(); 0u8; CHUNK]?;
     let mut inbox = Inbox::new(rt.alloc());
     let mut input = rt.stdin();
     for _ in 0..u64::MAX {
@@ -74,10 +83,13 @@ pub fn serve<S: Speaker>(rt: &HostRuntime, speaker: &mut S) -> Result<(), Halt> 
         if count == 0 {
             break;
         }
-        let heard = inbox.feed(&chunk[0..count], speaker);
+        let heard = inbox.feed(&chunk[..count], speaker);
         // what was answered before a stop is saved, and goes out
-        flushed(speaker)?;
+        speaker.outbox().flush().map_err(Halt::Output)?;
         heard?;
     }
-    end(&inbox, speaker)
+    if inbox.is_cut() {
+        speaker.outbox().put(Message::Fault(Fault::Malformed))?;
+    }
+    speaker.outbox().flush().map_err(Halt::Output)
 }

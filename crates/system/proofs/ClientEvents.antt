@@ -12,7 +12,7 @@ use Rattle.lease.specs.World as core
 use Rattle.lease.specs.World.{Message, Requests, Grants, World, knowing_nothing, elem}
 use Rattle.lease.specs.Run as run
 use Rattle.lease.specs.Run.{asks, asked as asks_with, client_hears, client_passes, hearing, with_client}
-use Rattle.lease.proofs.Options.{none-some, some_same}
+use Rattle.std.proofs.lemmas.Option.{none-some, same_Some}
 use Rattle.lease.proofs.Claims.{In}
 use Rattle.lease.proofs.Sound.{Kept, Moments, Sound, same}
 use Rattle.lease.proofs.ClientSteps as client_steps
@@ -121,7 +121,7 @@ module _ (k : model.Settings) (p : ℕ) (x : Parties) (w : Watch) (b : Base k p 
           let g : c₀.state.own ≡ Some d = subst (λ (z : ℕ). (x.clients z).state.own ≡ Some d) e m.own in
           elim o [
             | inl none ↦ none-some d (sym none ∙ g)
-            | inr some ↦ eqb-false d c ne (some_same d c (sym g ∙ some))
+            | inr some ↦ eqb-false d c ne (same_Some d c (sym g ∙ some))
           ])
 
       -- a world for the holder `h`
@@ -169,7 +169,7 @@ module _ (k : model.Settings) (p : ℕ) (x : Parties) (w : Watch) (b : Base k p 
             server = refl;
             messages = refl;
             drawn = refl;
-            mine = λ d e. let z : d ≡ c = some_same d c (sym e ∙ o) in cond-true (eqb d c) (knowing_nothing clock up) (b.world.clients d) (eq-eqb d c z);
+            mine = λ d e. let z : d ≡ c = same_Some d c (sym e ∙ o) in cond-true (eqb d c) (knowing_nothing clock up) (b.world.clients d) (eq-eqb d c z);
             others = λ d ne. at_other c (knowing_nothing clock up) b.world.clients d (λ e. ne (o ∙ ap (λ (z : ℕ). Some z) (sym e)));
           }
 
@@ -181,11 +181,11 @@ module _ (k : model.Settings) (p : ℕ) (x : Parties) (w : Watch) (b : Base k p 
             let h : core.Client → core.Client = λ z. settled z (hearing k.term c g z) in
             record {
               world = client_hears k c (Some (Grants g)) b.world;
-              sound = client_steps.client-hears k S S' b.world b.sound c (kept-all stays) (Some (Grants g)) (λ m q. subst (λ (z : Message). In z b.world.messages) (some_same _ _ q) sent);
+              sound = client_steps.client-hears k S S' b.world b.sound c (kept-all stays) (Some (Grants g)) (λ m q. subst (λ (z : Message). In z b.world.messages) (same_Some _ _ q) sent);
               server = refl;
               messages = refl;
               drawn = refl;
-              mine = λ d q. let z : d ≡ c = some_same d c (sym q ∙ o) in cond-true (eqb d c) (h (b.world.clients c)) (b.world.clients d) (eq-eqb d c z) ∙ ap h e;
+              mine = λ d q. let z : d ≡ c = same_Some d c (sym q ∙ o) in cond-true (eqb d c) (h (b.world.clients c)) (b.world.clients d) (eq-eqb d c z) ∙ ap h e;
               others = λ d ne. at_other c (h (b.world.clients c)) b.world.clients d (λ q. ne (o ∙ ap (λ (z : ℕ). Some z) (sym q)));
             }
 
@@ -206,7 +206,7 @@ module _ (k : model.Settings) (p : ℕ) (x : Parties) (w : Watch) (b : Base k p 
               messages = refl;
               drawn = refl;
               mine = λ d q.
-                  let z : d ≡ c = some_same d c (sym q ∙ o) in
+                  let z : d ≡ c = same_Some d c (sym q ∙ o) in
                   ap (λ (n : ℕ). client_passes n (b.world.clients d)) (cond-true (eqb d c) 1 0 (eq-eqb d c z)) ∙ ap (λ (n : ℕ). client_passes 1 (b.world.clients n)) z ∙ ap (client_passes 1) e;
               others = λ d ne.
                   ap (λ (n : ℕ). client_passes n (b.world.clients d)) (cond-false (eqb d c) 1 0 (ne_eqb d c (λ q. ne (o ∙ ap (λ (z : ℕ). Some z) (sym q)))))
@@ -295,7 +295,7 @@ module _ (k : model.Settings) (p : ℕ) (x : Parties) (w : Watch) (b : Base k p 
             server = m.server;
             messages = λ g i. inr (subst (λ (y : List Message). In g y) (sym m.messages) i);
             asked = λ g i. inl (ap (λ (y : asked.Request). Requests y) (only g r (sym (ap (λ (y : List asked.Request). requested g y) one) ∙ i)));
-            mine = λ d g. let s : d ≡ c = some_same d c (sym g ∙ o) in cond-true (eqb d c) (asks_with n (u.clients c)) (u.clients d) (eq-eqb d c s) ∙ ap (asks_with n) me ∙ sym e;
+            mine = λ d g. let s : d ≡ c = same_Some d c (sym g ∙ o) in cond-true (eqb d c) (asks_with n (u.clients c)) (u.clients d) (eq-eqb d c s) ∙ ap (asks_with n) me ∙ sym e;
             others = λ d ne. at_other c (asks_with n (u.clients c)) u.clients d (λ g. ne (o ∙ ap (λ (y : ℕ). Some y) (sym g))) ∙ m.others d ne;
             queues = subst (λ (y : List ℕ). Queues (record { server = x.server; clients = at i a.client x.clients }) v₀ (n ∷ y)) (sym m.drawn)
                 (queues_so (n ∷ a.client.nonces) (n ∷ b.world.drawn) q (distinct_head n a.client.nonces q.distinct).1 (λ g i. elem-later g n a.client.nonces i)
@@ -322,7 +322,7 @@ module _ (k : model.Settings) (p : ℕ) (x : Parties) (w : Watch) (b : Base k p 
           (agreed : (m : model.Settings) → a.client.state.settings ≡ Some m → m ≡ k) (quiet : a.client.state.holder.up ≡ false → a.leads i ≡ None) where
         is-own : (o : Option ℕ) (c : ℕ) → (o ≡ Some c) ⊎ (o ≡ Some c → ⊥)
         is-own None c = inr (λ e. none-some c e)
-        is-own (Some d) c = elim (cases_eq d c) [ inl e ↦ inl (ap (λ (n : ℕ). Some n) e) | inr e ↦ inr (λ g. e (some_same d c g)) ]
+        is-own (Some d) c = elim (cases_eq d c) [ inl e ↦ inl (ap (λ (n : ℕ). Some n) e) | inr e ↦ inr (λ g. e (same_Some d c g)) ]
 
         owner : (c : ℕ) → (z.world.clients c).up ≡ true → (l : ℕ) × (l < places) × ((y.clients l).state.own ≡ Some c)
         owner c up =

@@ -12,7 +12,7 @@ use Rattle.lease.specs.Holding.{Holding, later, nothing, settled, taking}
 use Rattle.lease.specs.World as core
 use Rattle.lease.specs.World.{Grants, knowing_nothing, elem}
 use Rattle.lease.specs.Run.{client_passes, hearing, held_by}
-use Rattle.lease.proofs.Options.{none-some, some_same}
+use Rattle.std.proofs.lemmas.Option.{none-some, same_Some}
 use Rattle.lease.proofs.Claims.{In}
 use Rattle.wire.specs.declared.message.Message.{Message}
 use Rattle.wire.specs.declared.message.Message.TheVariants.{Request, Grant, Settings, Tick, Crash, Restart, OwnNumber, Nonce, InUse, NoAddress, Fault}
@@ -77,7 +77,7 @@ module _ (k : model.Settings) (p : ℕ) (x : Parties) (w : Watch) (b : Base k p 
     numbered c was (Request r) e h o = still (Request r) e refl h o
     numbered c was (Grant g) e (inl h) o = still (Grant g) e refl h o
     numbered c was (Grant g) e (inr h) o =
-        let same-c : h.0 ≡ c = some_same h.0 c (sym h.2 ∙ was) in
+        let same-c : h.0 ≡ c = same_Some h.0 c (sym h.2 ∙ was) in
         let same-k : h.1 ≡ k = b.agreed i h.1 i< h.3 in
         let z : t.state.holder ≡ settled c₀.state.holder (hearing k.term c g c₀.state.holder) =
         h.4 ∙ ap (λ (n : ℕ). settled c₀.state.holder (hearing h.1.term n g c₀.state.holder)) same-c

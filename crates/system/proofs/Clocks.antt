@@ -6,7 +6,7 @@ use Rattle.std.proofs.lemmas.List.{append_assoc}
 use Rattle.lease.specs.Settings as model
 use Rattle.lease.specs.Settings.{outlasts}
 use Rattle.lease.specs.Table.{at}
-use Rattle.lease.proofs.Options.{some_same}
+use Rattle.std.proofs.lemmas.Option.{same_Some}
 use Rattle.system.specs.Parties.{Parties, Event, ToServer, ToClient, Cuts, Damages, AllWithin, Outcome, happens, heard, places}
 use Rattle.system.specs.Watch.{Lead, Watch, anew, is_tick, leads_after, start_in, watched}
 use Rattle.system.specs.Report.{Play, after, beginning, broken, judged, lines, next, played, ticks_next}
@@ -141,7 +141,7 @@ module _ (before between rest : List Event) (i : AllWithin (before ++ (between +
         let n' : Near (h'.parties.clients p).state.holder.clock h'.parties.server.server.clock (h'.watch.leads p) = near h'.parties h'.watch J' b' in
         let on : h' ≡ reached between rest h = reached-on before between rest beginning in
         let g : (d : Lead) × ((reached between rest h).watch.leads p ≡ Some d) × Wider n.lead d = grown p between rest h s n.lead n.noted in
-        let z : g.0 ≡ n'.lead = some_same _ _ (sym g.1 ∙ ap (λ (y : Play). y.watch.leads p) (sym on) ∙ n'.noted) in
+        let z : g.0 ≡ n'.lead = same_Some _ _ (sym g.1 ∙ ap (λ (y : Play). y.watch.leads p) (sym on) ∙ n'.noted) in
         let wide : Wider n.lead n'.lead = subst (λ (d : Lead). Wider n.lead d) z g.2 in
         let slim : n'.lead.most ≤ n'.lead.least + k.skew = J'.narrow p p< (ap is_some e) n'.lead n'.noted in
         let same : m ≡ k =

@@ -12,7 +12,7 @@ use Rattle.lease.specs.World as core
 use Rattle.lease.specs.World.{Message, Requests, Grants, World, elem}
 use Rattle.lease.specs.Run as run
 use Rattle.lease.specs.Run.{client_passes, over, server_passes}
-use Rattle.lease.proofs.Options.{none-some, some_same}
+use Rattle.std.proofs.lemmas.Option.{none-some, same_Some}
 use Rattle.lease.proofs.Claims.{In}
 use Rattle.lease.proofs.Sound.{Sound, same}
 use Rattle.lease.proofs.Passing.{time_passes}
@@ -183,7 +183,7 @@ module _ (k : model.Settings) (p : ℕ) (x : Parties) (w : Watch) (b : Base k p 
         noted_now x w.leads m.place b.clock (up_both m.place c m.own (ap (λ (z : core.Client). z.up) (sym e) ∙ up) (s.1 ∙ sup)) in
         let q : (d : Lead) × (noted x w.leads m.place ≡ Some d) × Wider m.lead d = noted_wider x w.leads m.place m.lead m.noted in
         let d : Lead = n.0 in
-        let z : q.0 ≡ d = some_same _ _ (sym q.1 ∙ n.1) in
+        let z : q.0 ≡ d = same_Some _ _ (sym q.1 ∙ n.1) in
         let wide : Wider m.lead d = subst (λ (y : Lead). Wider m.lead y) z q.2 in
         let g : d.most ≤ d.least + k.skew = slim m.place m.within m.known d n.1 in
         let c₁ : (b.world.clients c).clock ≡ (x.clients m.place).state.holder.clock = ap (λ (z : core.Client). z.clock) e in
@@ -273,7 +273,7 @@ module _ (k : model.Settings) (x : Parties) (w : Watch) (f : Judged k x w) where
       let here : (x.server.server.clock ≡ base.world.server.clock + 0) × (x.server.server.up ≡ base.world.server.up) = server-clock k 0 x w base in
       let e : base.world.clients c ≡ (x.clients m.place).state.holder = base.clients m.place c m.within m.own in
       let n : Near (x.clients m.place).state.holder.clock base.world.server.clock (w.leads m.place) = f.near m.place c m.within m.own (is_up c t h m) (here.1 ∙ up) in
-      let z : n.lead ≡ m.lead = some_same _ _ (sym n.noted ∙ m.noted) in
+      let z : n.lead ≡ m.lead = same_Some _ _ (sym n.noted ∙ m.noted) in
       let a₁ : m.lead.least + base.world.server.clock ≤ (x.clients m.place).state.holder.clock + 2 ^ 63 =
       subst (λ (d : Lead). d.least + base.world.server.clock ≤ (x.clients m.place).state.holder.clock + 2 ^ 63) z n.at.0 in
       let g : m.lead.most ≤ m.lead.least + k.skew = f.narrow m.place m.within m.known m.lead m.noted in

@@ -3,7 +3,6 @@
 use Rattle.std.proofs.Common.{◌≡◌, ℕ, ◌+◌, ◌^◌, ◌<◌, ◌≤◌, true, eqb, ltb, leb, [], ◌∷◌, Some, None, Ok, Option, Result, sym, refl, ap, ◌∙◌, subst, inl, inr, arith}
 use Rattle.std.specs.Option.{option_map}
 use Rattle.std.proofs.lemmas.Bool.{cond_both, cond-true, cond-false, eq-eqb, le-leb, lt-ltb, ltb-true}
-use Rattle.lease.specs.declared.answer.Answer as lent
 use Rattle.lease.specs.declared.fault.Fault as lease
 use Rattle.lease.specs.declared.lease.Lease.{Lease}
 use Rattle.lease.specs.declared.message.Grant as given
@@ -17,7 +16,7 @@ use Rattle.lease.specs.World as core
 use Rattle.lease.specs.World.{lending}
 use Rattle.lease.specs.Run.{answer, hearing}
 use Rattle.lease.specs.Run as run
-use Rattle.lease.proofs.Options.{none-some}
+use Rattle.std.proofs.lemmas.Option.{none-some}
 use Rattle.lease.proofs.Choosing.{choosing}
 use Rattle.lease.proofs.Promise as promise
 use Rattle.wire.specs.declared.message.Message.{Message}
@@ -67,7 +66,7 @@ module _ (x : Parties) (k : model.Settings) (i : ℕ) (r : asked.Request) (a : A
   answers =
       ap (λ (z : Answer). server.answers z s) heard
       ∙ ap (λ (o : Option model.Settings). server.requested o r s) a.server_knows
-      ∙ ap (λ (z : lent.Answer). server.replies k z s) (promise.answers k s.server r q a.lends c)
+      ∙ ap (λ (z : run.Answer). server.replies k z s) (promise.answers k s.server r q a.lends c)
       ∙ cond-false (exhausted (planned k s)) _ _ a.room
 
   said : (answered_to r x).said ≡ Grant g ∷ []

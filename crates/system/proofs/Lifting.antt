@@ -1,16 +1,14 @@
 -- What the server does in one step, as events of the lending core, keeps what holds at every moment.
 -- Assumes nothing.
-use Rattle.std.proofs.Common.{◌≡◌, ℕ, ◌+◌, ◌≤◌, Bool, true, false, cond, List, [], ◌∷◌, Some, sym, refl, ◌∙◌, subst, inr, arith}
+use Rattle.std.proofs.Common.{◌≡◌, ℕ, ◌+◌, ◌≤◌, Bool, true, false, cond, List, [], ◌∷◌, Some, None, Ok, Err, sym, refl, ◌∙◌, subst, inr, arith}
 use Rattle.std.proofs.lemmas.Bool.{cond_both, both_ways}
-use Rattle.lease.specs.declared.answer.Answer as lent
-use Rattle.lease.specs.declared.answer.Answer.TheVariants.{Unheard, Granted, Refused}
 use Rattle.lease.specs.declared.message.Request as asked
 use Rattle.lease.specs.Settings as model
 use Rattle.lease.specs.Settings.{life}
 use Rattle.lease.specs.World.{Message, Requests, Server, World}
 use Rattle.lease.specs.Run as run
 use Rattle.lease.specs.Run.{answer, crashes, forgets, restarts, serves, replies, with_server, server_hears}
-use Rattle.lease.proofs.Options.{some_same}
+use Rattle.std.proofs.lemmas.Option.{same_Some}
 use Rattle.lease.proofs.Claims.{In}
 use Rattle.lease.proofs.Sound.{Moments, Sound, Agrees}
 use Rattle.lease.proofs.ServerSteps.{server-crashes, server-forgets, server-restarts, server-hears, server-hears_and_crashes}
@@ -21,18 +19,18 @@ use Rattle.server.specs.Refines.{AllFrom, Asking, Cause, Crashes, Event, Forgets
 use Rattle.server.specs.Follows.{sent_on}
 use Rattle.server.proofs.Following.{replies-on}
 
-pub serves-keeps : (k : model.Settings) (v : Server) (a : lent.Answer) → ((serves k a v).clock ≡ v.clock) × ((serves k a v).up ≡ v.up)
-serves-keeps k v Unheard = (refl, refl)
-serves-keeps k v (Granted g) = (refl, refl)
-serves-keeps k v (Refused f) = (refl, refl)
+pub serves-keeps : (k : model.Settings) (v : Server) (a : run.Answer) → ((serves k a v).clock ≡ v.clock) × ((serves k a v).up ≡ v.up)
+serves-keeps k v (Ok None) = (refl, refl)
+serves-keeps k v (Ok (Some g)) = (refl, refl)
+serves-keeps k v (Err f) = (refl, refl)
 
 pub forgets-keeps : (gone : ℕ → Bool) (v : Server) → ((forgets gone v).clock ≡ v.clock) × ((forgets gone v).up ≡ v.up)
 forgets-keeps gone v = cond_both v.up _ v (λ (z : Server). (z.clock ≡ v.clock) × (z.up ≡ v.up)) (λ e. (refl, refl)) (λ e. (refl, refl))
 
-still_in : (m : Message) (a : lent.Answer) (ms : List Message) → In m ms → In m (replies a ms)
-still_in m Unheard ms i = i
-still_in m (Granted g) ms i = inr i
-still_in m (Refused f) ms i = i
+still_in : (m : Message) (a : run.Answer) (ms : List Message) → In m ms → In m (replies a ms)
+still_in m (Ok None) ms i = i
+still_in m (Ok (Some g)) ms i = inr i
+still_in m (Err f) ms i = i
 
 asking_rising : (r : asked.Request) (clock : ℕ) (o : Cause) → o ≡ Asking r → o ≡ Rising clock → ⊥
 asking_rising r clock o e f = let z : ◌≡◌ {A = ℕ} 0 1 = cc in omega arith
@@ -98,10 +96,10 @@ module _ (k : model.Settings) (S : Moments) (o : Cause) where
     lift (Passes n ∷ evs) w so ti h l = absurd (untimed h.0.0)
     lift (Hears r ∷ evs) w so ti h l =
         let v : Server = w.server in
-        let a : lent.Answer = answer k v r in
+        let a : run.Answer = answer k v r in
         let i : In (Requests r) w.messages = l.requested r h.0 in
         let so₁ : Sound k S (server_hears k (Some (Requests r)) w) =
-        server-hears k S S w so (agrees w l) kept (λ c up cup. l.noted r h.0 up c cup) (Some (Requests r)) (λ m e. subst (λ (z : Message). In z w.messages) (some_same _ _ e) i) in
+        server-hears k S S w so (agrees w l) kept (λ c up cup. l.noted r h.0 up c cup) (Some (Requests r)) (λ m e. subst (λ (z : Message). In z w.messages) (same_Some _ _ e) i) in
         let q : Lifts (server_hears k (Some (Requests r)) w) evs =
         lift evs (server_hears k (Some (Requests r)) w) so₁ (hears_tidy k w (Some (Requests r)) ti) h.1
         (leans_on w (serves k a v) (replies a w.messages) l (serves-keeps k v a) (λ m j. still_in m a w.messages j)) in
@@ -120,7 +118,7 @@ module _ (k : model.Settings) (S : Moments) (o : Cause) where
         let v₁ : Server = crashes (cond wrote (serves k (answer k v r) v) v) in
         let so₁ : Sound k S (with_server v₁ w) =
         server-hears_and_crashes k S S w so (agrees w l) kept (λ c up cup. l.noted r h.0 up c cup) (Some (Requests r)) wrote
-        (λ m e. subst (λ (z : Message). In z w.messages) (some_same _ _ e) i) in
+        (λ m e. subst (λ (z : Message). In z w.messages) (same_Some _ _ e) i) in
         let same : v₁.clock ≡ v.clock = cond_both wrote (serves k (answer k v r) v) v (λ (z : Server). z.clock ≡ v.clock) (λ e. (serves-keeps k v (answer k v r)).0) (λ e. refl) in
         let q : Lifts (with_server v₁ w) evs = lift evs (with_server v₁ w) so₁ (lost_tidy k v r wrote ti) h.1 (leans_down w v₁ l same refl) in
         record { world = q.world; sound = q.sound; tidy = q.tidy; server = q.server; clients = q.clients; messages = q.messages; drawn = q.drawn }

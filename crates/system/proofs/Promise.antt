@@ -9,7 +9,7 @@ use Rattle.lease.specs.Choosing.{lowest}
 use Rattle.lease.specs.Holding.{Holding, Use}
 use Rattle.lease.specs.Table.{Table}
 use Rattle.lease.specs.World as core
-use Rattle.lease.proofs.Options.{none-some, some_same}
+use Rattle.std.proofs.lemmas.Option.{none-some, same_Some}
 use Rattle.lease.proofs.Choosing.{Lowest, lowest-is}
 use Rattle.lease.proofs.Claims.{Using, view}
 use Rattle.lease.proofs.Keeping.{tidy_empty}
@@ -47,7 +47,7 @@ module _ (k : model.Settings) (p : ℕ) (x : Parties) (w : Watch) (b : Base k p 
       let m : Using k (Moment x w c.0) (view b.world b.sound.book) c.0 (b.world.clients c.0) u = line_of i c.0 i< u e c.1 in
       let n : Using k (Moment x w d.0) (view b.world b.sound.book) d.0 (b.world.clients d.0) v = line_of l d.0 l< v f d.1 in
       let s : b.sound.book u.address ≡ b.sound.book v.address = ap b.sound.book same in
-      let t : m.claim.line.lease ≡ n.claim.line.lease = some_same _ _ (sym m.claim.line.there ∙ s ∙ n.claim.line.there) in
+      let t : m.claim.line.lease ≡ n.claim.line.lease = same_Some _ _ (sym m.claim.line.there ∙ s ∙ n.claim.line.there) in
       let g : c.0 ≡ d.0 = sym m.claim.line.client ∙ ap (λ (z : Lease). z.client) t ∙ n.claim.line.client in
       b.alone i l d.0 i< l< (c.1 ∙ ap (λ (z : ℕ). Some z) g) d.1
 
@@ -239,7 +239,7 @@ settings-of (Some k) = k
 
 pub settings_so : (o : Option model.Settings) (m : model.Settings) → o ≡ Some m → m ≡ settings-of o
 settings_so None m e = absurd (none-some m e)
-settings_so (Some k) m e = some_same m k (sym e)
+settings_so (Some k) m e = same_Some m k (sym e)
 
 pub ends : (es : List Event) → AllWithin es → Kept es → (k : model.Settings) × Ends k es beginning
 ends es i quiet =

@@ -9,7 +9,7 @@ use Rattle.lease.specs.Settings.{life}
 use Rattle.lease.specs.World as core
 use Rattle.lease.specs.World.{Message, Requests, Grants, World}
 use Rattle.lease.specs.Run.{answer, crashes, forgets, restarts, serves}
-use Rattle.lease.proofs.Options.{some_same}
+use Rattle.std.proofs.lemmas.Option.{same_Some}
 use Rattle.lease.proofs.Claims.{In}
 use Rattle.lease.proofs.Sound.{same}
 use Rattle.lease.proofs.History.{restarts-clock}
@@ -114,7 +114,7 @@ module _ (k : model.Settings) (x : Parties) (w : Watch) (f : Judged k x w) (s' :
         let n : (d : Lead) × (noted y w.leads m.place ≡ Some d) × At d (x.clients m.place).state.holder.clock s'.server.clock =
         noted_now y w.leads m.place q.clock (and_from _ _ r.1 (and_from _ _ (is_up k x w f c t h m) (ap is_some m.own))) in
         let p : (d : Lead) × (noted y w.leads m.place ≡ Some d) × Wider m.lead d = noted_wider y w.leads m.place m.lead m.noted in
-        let z : p.0 ≡ n.0 = some_same _ _ (sym p.1 ∙ n.1) in
+        let z : p.0 ≡ n.0 = same_Some _ _ (sym p.1 ∙ n.1) in
         let a₃ : m.lead.most ≤ n.0.most = subst (λ (d : Lead). m.lead.most ≤ d.most) z p.2.most in
         let g : n.0.most ≤ n.0.least + k.skew = slim m.place m.within (q.known m.known) n.0 n.1 in
         let c₁ : (b.world.clients c).clock ≡ (x.clients m.place).state.holder.clock = ap (λ (z : core.Client). z.clock) e in

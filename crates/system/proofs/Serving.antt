@@ -5,8 +5,7 @@ use Rattle.std.specs.Option.{option_map}
 use Rattle.std.proofs.lemmas.Bool.{both_ways, cases_Bool, cond_both, cond-true, cond-false, leb-true, leb-false, ltb-true, ltb-false, lt-ltb, and_parts, not-false}
 use Rattle.lease.specs.declared.fault.Fault as lease
 use Rattle.lease.specs.declared.fault.Fault.TheVariants.{CountExhausted}
-use Rattle.lease.specs.declared.answer.Answer as lent
-use Rattle.lease.specs.declared.answer.Answer.TheVariants.{Unheard, Granted, Refused}
+use Rattle.lease.specs.Run as lent
 use Rattle.lease.specs.declared.message.Grant as given
 use Rattle.lease.specs.declared.message.Request as asked
 use Rattle.lease.specs.Settings as model
@@ -16,7 +15,7 @@ use Rattle.lease.specs.World.{is_silent}
 use Rattle.lease.specs.Table.{Table, empty}
 use Rattle.lease.specs.Run.{answer, crashes}
 use Rattle.lease.specs.Stands.{with_table}
-use Rattle.lease.proofs.Options.{none-some, some_same}
+use Rattle.std.proofs.lemmas.Option.{none-some, same_Some}
 use Rattle.lease.proofs.History.{restarts-clock}
 use Rattle.wire.specs.declared.message.Message.{Message}
 use Rattle.wire.specs.declared.message.Message.TheVariants as message
@@ -90,7 +89,7 @@ time_in (Err f) e = absurd (let z : ◌≡◌ {A = ℕ} 0 1 = cc in omega arith)
 pub grants-sent : (es : List Effect) → grants (sends es) ≡ grants_in es
 unfolding grants sends
 grants-sent [] = refl
-grants-sent (Persist f n ∷ es) = grants-sent es
+grants-sent (Persist w ∷ es) = grants-sent es
 grants-sent (Send (message.Request r) ∷ es) = grants-sent es
 grants-sent (Send (message.Grant g) ∷ es) = ap (λ (z : List given.Grant). g ∷ z) (grants-sent es)
 grants-sent (Send (message.Settings n t k) ∷ es) = grants-sent es
@@ -189,7 +188,7 @@ module _ (k : model.Settings) (x : Parties) (w : Watch) (b : Base k 0 x w) where
               omega (arith, z, (on _ e).0)
         ];
         known = told-first w.settings t.settings;
-        told = λ j e. (some_same j k (sym e ∙ r.stands.settled), told-first w.settings t.settings knows-all);
+        told = λ j e. (same_Some j k (sym e ∙ r.stands.settled), told-first w.settings t.settings knows-all);
       },
       grants-sent es ∙ r.sends,
     )
@@ -232,12 +231,12 @@ module _ (k : model.Settings) (x : Parties) (w : Watch) (b : Base k 0 x w) where
     no_asking r q e = cc
 
     cut-answer : (r : asked.Request) → requested r w.requests ≡ true → (a : lent.Answer) → answer k s.server r ≡ a → (n : ℕ) (c : Cut) → Good (silently (cut_answer k a n c s))
-    cut-answer r was Unheard e n c = quietly
-    cut-answer r was (Granted g) e n c =
-        refined (cut_answer k (Granted g) n c s) [] (Asking r) (λ f. (let z : ◌≡◌ {A = ℕ} 0 1 = cc in omega arith)) (cut-refines-all k s r g n c st e)
+    cut-answer r was (Ok None) e n c = quietly
+    cut-answer r was (Ok (Some g)) e n c =
+        refined (cut_answer k (Ok (Some g)) n c s) [] (Asking r) (λ f. (let z : ◌≡◌ {A = ℕ} 0 1 = cc in omega arith)) (cut-refines-all k s r g n c st e)
         (λ q f. subst (λ (z : asked.Request). requested z w.requests ≡ true) (no_asking r q f) was)
         (λ clock f. absurd (let z : ◌≡◌ {A = ℕ} 0 1 = cc in omega arith))
-    cut-answer r was (Refused f) e n c = quietly
+    cut-answer r was (Err f) e n c = quietly
 
     cut_cause : (bs : List ℕ) → unsent_request (read bs) w ≡ false → (o : Cause) → cause_in (understood bs s) ≡ o → (n : ℕ) (c : Cut) → Good (silently (cut_by (Some k) o n c s))
     cut_cause bs sent Time e n c = quietly
@@ -392,7 +391,7 @@ module _ (k : model.Settings) (x : Parties) (w : Watch) (b : Base k 0 x w) where
             home = inl r.stands;
             clock = omega (arith, e₁, b.clock);
             known = λ g. knows_then;
-            told = λ j g. (some_same j k (sym g ∙ has_settled k), knows_then);
+            told = λ j g. (same_Some j k (sym g ∙ has_settled k), knows_then);
           },
           grants-sent (settles k s).effects ∙ r.sends,
         )
@@ -413,7 +412,7 @@ module _ (k : model.Settings) (x : Parties) (w : Watch) (b : Base k 0 x w) where
             home = inl (refines few).stands;
             clock = let e : (settles k s).state.server.clock ≡ s.server.clock = ap (λ (t : server.Step). t.state.server.clock) z in omega (arith, e, b.clock);
             known = λ g. knows_then;
-            told = λ j g. (some_same j k (sym g ∙ has_settled k), knows_then);
+            told = λ j g. (same_Some j k (sym g ∙ has_settled k), knows_then);
           },
           ap (λ (t : server.Step). grants (sends t.effects)) z,
         )

@@ -6,7 +6,7 @@ use Rattle.std.proofs.lemmas.Bool.{cond_both, cond-true, both_ways, cases_lt, ca
 use Rattle.lease.specs.declared.message.Grant as given
 use Rattle.lease.specs.declared.message.Request as asked
 use Rattle.lease.specs.Settings as model
-use Rattle.lease.proofs.Options.{none-some, some_same}
+use Rattle.std.proofs.lemmas.Option.{none-some, same_Some}
 use Rattle.system.specs.declared.line.Premise.{Premise}
 use Rattle.system.specs.Parties.{Parties, Event, Outcome, places}
 use Rattle.system.specs.Watch.{Lead, Watch, any_below, same_request, same_grant, unsent, drawn, any_in, same_number, clash, shares_number, knows, or_first, differ, exhausts, sets_back, lead, widened, both_up, noted, wide, apart, or_else, breaks}
@@ -136,7 +136,7 @@ module _ (x : Parties) (ls : ℕ → Option Lead) (i : ℕ) where
   widens : (o : Option Lead) → Noted o (Some (widened (lead t h) o))
   widens None d e = absurd (none-some d e)
   widens (Some b) d e =
-      let s : b ≡ d = some_same b d e in (
+      let s : b ≡ d = same_Some b d e in (
         widened (lead t h) (Some b),
         refl,
         record {

@@ -3,3 +3,4 @@ pub mod Watch
 pub mod Report
 pub mod Promise
 pub mod Clocks
+pub mod Names

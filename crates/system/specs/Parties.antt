@@ -1,8 +1,7 @@
 -- A server with its device and clients, by their own steps over the bytes that they hear, and what can happen to them.
 -- Assumes nothing: any bytes may come to anybody.
-use Rattle.std.specs.Prelude.{ℕ, ◌^◌, ◌<◌, cond, ◌&&◌, List, [], ◌∷◌, Some, None, Option, nat_lt}
-use Rattle.lease.specs.declared.answer.Answer as lent
-use Rattle.lease.specs.declared.answer.Answer.TheVariants.{Unheard, Granted, Refused}
+use Rattle.std.specs.Prelude.{ℕ, ◌^◌, ◌<◌, cond, ◌&&◌, List, [], ◌∷◌, Some, None, Ok, Err, Option, nat_lt}
+use Rattle.lease.specs.Run as lent
 use Rattle.lease.specs.Settings as model
 use Rattle.lease.specs.Table.{at}
 use Rattle.lease.specs.Run.{answer}
@@ -57,7 +56,7 @@ pub record Outcome : Type 0 where
 -- the messages among effects
 unfoldable pub sends : List Effect → List Message
 sends [] = []
-sends (Persist first count ∷ es) = sends es
+sends (Persist w ∷ es) = sends es
 sends (Send m ∷ es) = m ∷ sends es
 
 abbrev pub server_does : server.Step → Parties → Outcome
@@ -68,9 +67,9 @@ client_does i p x = record { parties = record { server = x.server; clients = at 
 
 -- a crash within the writes of a lease that is granted
 abbrev pub cut_answer : model.Settings → lent.Answer → (whole : ℕ) → Cut → server.State → server.State
-cut_answer k Unheard n c s = s
-cut_answer k (Granted g) n c s = down_with (cut_at n c (writes (planned k s) (lease_of k s g)) s.device) s
-cut_answer k (Refused f) n c s = s
+cut_answer k (Ok None) n c s = s
+cut_answer k (Ok (Some g)) n c s = down_with (cut_at n c (writes (planned k s) (lease_of k s g)) s.device) s
+cut_answer k (Err f) n c s = s
 
 abbrev pub cut_by : Option model.Settings → Cause → (whole : ℕ) → Cut → server.State → server.State
 cut_by None o n c s = s

@@ -8,8 +8,7 @@ use Rattle.wire.specs.Stream.{framed}
 use Rattle.text.specs.declared.fault.Breach.TheVariants as breach
 use Rattle.text.specs.declared.form.Form.{Form}
 use Rattle.text.specs.declared.form.Form.TheVariants.{Script, Stream}
-use Rattle.text.specs.Entries.{Entry, entry, First, Found, framed_first, first_entry, rest_of, behind, from_first, entries_by, entries, bytes_of}
-use Rattle.text.specs.Entries.First.{whole, broken}
+use Rattle.text.specs.Entries.{Entry, entry, First, Found, framed_first, first_entry, rest_of, behind, from_first, entries_by, entries, bytes_of, whole}
 use Rattle.text.specs.Entry.{entry_bytes}
 use Rattle.text.specs.Laws.{Good}
 use Rattle.text.proofs.Splitting.{shrinks}
@@ -30,11 +29,14 @@ record Begun (f : Form) (bs : List ℕ) (e : Entry) (rest : List ℕ) : Type 0 w
   good : Good f e
   left : Octets rest
 
+same_first : (p q : Entry × List ℕ) → ◌≡◌ {A = First} (Ok p) (Ok q) → p ≡ q
+same_first p q h = cc
+
 same-entry : (d e : Entry) (s t : List ℕ) → whole d s ≡ whole e t → d ≡ e
-same-entry d e s t h = cc
+same-entry d e s t h = ap (λ (p : Entry × List ℕ). p.0) (same_first (d, s) (e, t) h)
 
 same_rest : (d e : Entry) (s t : List ℕ) → whole d s ≡ whole e t → s ≡ t
-same_rest d e s t h = cc
+same_rest d e s t h = ap (λ (p : Entry × List ℕ). p.1) (same_first (d, s) (e, t) h)
 
 whole-framed : (who n : ℕ) (bs : List ℕ) → n ≤ length bs → Octets (n ∷ bs) → Framed who (n ∷ bs) (entry who (take n bs)) (drop n bs)
 whole-framed who n bs h o =
@@ -51,7 +53,7 @@ whole-framed who n bs h o =
 framed_back : (who : ℕ) (bs : List ℕ) (e : Entry) (rest : List ℕ) → Octets bs → framed_first who bs ≡ whole e rest → Framed who bs e rest
 framed_back who [] e rest o h = absurd (let z : ◌≡◌ {A = ℕ} 0 1 = cc in omega arith)
 framed_back who (n ∷ bs) e rest o h =
-    cond_both (ltb (length bs) n) (broken breach.Short) (whole (entry who (take n bs)) (drop n bs)) (λ x. x ≡ whole e rest → Framed who (n ∷ bs) e rest)
+    cond_both (ltb (length bs) n) (Err breach.Short) (whole (entry who (take n bs)) (drop n bs)) (λ x. x ≡ whole e rest → Framed who (n ∷ bs) e rest)
     (λ t g. absurd (let z : ◌≡◌ {A = ℕ} 0 1 = cc in omega arith))
     (λ t g. subst (λ (d : Entry). Framed who (n ∷ bs) d rest) (same-entry _ e _ rest g) (subst (λ (r : List ℕ). Framed who (n ∷ bs) (entry who (take n bs)) r) (same_rest _ e _ rest g) (whole-framed who n bs (ltb-false (length bs) n t) o)))
     h
@@ -62,7 +64,7 @@ first_back Stream bs e rest o h =
     record { is = g.is; good = record { party = g.same; few = g.few; octets = g.octets }; left = g.left }
 first_back Script [] e rest o h = absurd (let z : ◌≡◌ {A = ℕ} 0 1 = cc in omega arith)
 first_back Script (who ∷ bs) e rest o h =
-    cond_both (ltb 64 who) (broken (breach.Party who)) (framed_first who bs) (λ x. x ≡ whole e rest → Begun Script (who ∷ bs) e rest)
+    cond_both (ltb 64 who) (Err (breach.Party who)) (framed_first who bs) (λ x. x ≡ whole e rest → Begun Script (who ∷ bs) e rest)
     (λ t g. absurd (let z : ◌≡◌ {A = ℕ} 0 1 = cc in omega arith))
     (λ t g.
     let r = framed_back who bs e rest o.1 g in
@@ -90,10 +92,10 @@ by_found f bs e rest es (Err x) b h go = absurd (let z : ◌≡◌ {A = ℕ} 0 1
 by_found f bs e rest es (Ok ds) b h go = one_more f bs e rest es ds b h (go ds refl)
 
 by_first : (t : ℕ) (f : Form) (bs : List ℕ) (es : List Entry) (x : First) → first_entry f bs ≡ x → Octets bs → length (rest_of x) ≤ t → from_first (length bs) x (entries_by t f (rest_of x)) ≡ Ok es → ((rest : List ℕ) (ds : List Entry) → length rest ≤ t → Octets rest → entries_by t f rest ≡ Ok ds → Back f rest ds) → Back f bs es
-by_first t f bs es (broken b) g o l h go = absurd (let z : ◌≡◌ {A = ℕ} 0 1 = cc in omega arith)
-by_first t f bs es (whole e rest) g o l h go =
-    let b = first_back f bs e rest o g in
-    by_found f bs e rest es (entries_by t f rest) b h (λ ds d. go rest ds l b.left d)
+by_first t f bs es (Err b) g o l h go = absurd (let z : ◌≡◌ {A = ℕ} 0 1 = cc in omega arith)
+by_first t f bs es (Ok p) g o l h go =
+    let b = first_back f bs p.0 p.1 o g in
+    by_found f bs p.0 p.1 es (entries_by t f p.1) b h (λ ds d. go p.1 ds l b.left d)
 
 pub entries_back : (t : ℕ) (f : Form) (bs : List ℕ) (es : List Entry) → length bs ≤ t → Octets bs → entries_by t f bs ≡ Ok es → Back f bs es
 unfolding entries_by

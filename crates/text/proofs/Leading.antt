@@ -10,6 +10,7 @@ use Rattle.text.specs.declared.kind.Verb.{Verb}
 use Rattle.text.specs.declared.line.Lead.{Lead}
 use Rattle.text.specs.declared.line.Line.{Line}
 use Rattle.text.specs.declared.speech.Speech.{Speech}
+use Rattle.text.specs.Entry.{addressee}
 use Rattle.text.specs.Laws.{Party}
 use Rattle.text.specs.Line.{lead, lead_of, boxed, spoke, verbed, led, begins, something, bytes_of, line_bytes, speech_bytes}
 use Rattle.text.specs.Pieces.{space}
@@ -26,10 +27,10 @@ lead-words Script who = cond (eqb who 0) (codes "house" ∷ []) (codes "box" ∷
 
 begun : (f : Form) (ws : Words) (who p : ℕ) (v : Verb) (s : Speech) (bs : List ℕ) → absent 0 ws ≡ false → lead_of f ws ≡ Ok (lead who p) → verb_of (word p ws) ≡ Some v → speech_of v (p + 1) ws ≡ Ok s → speech_bytes f who ws s ≡ bs → line_bytes f ws ≡ Ok bs
 begun f ws who p v s bs a l e g h =
-    ap (λ (r : Result (Option Line) Mistake). bytes_of f ws r) (cond-false (absent 0 ws) (Ok None) (something (begins f ws)) a)
-    ∙ (ap (λ (r : Result Lead Mistake). bytes_of f ws (something (led ws r))) l
-    ∙ (ap (λ (o : Option Verb). bytes_of f ws (something (verbed (lead who p) ws o))) e
-    ∙ (ap (λ (r : Result Speech Mistake). bytes_of f ws (something (spoke who r))) g ∙ ap (λ (x : List ℕ). Ok x) h)))
+    ap (λ (r : Result (Option Line) Mistake). bytes_of ws r) (cond-false (absent 0 ws) (Ok None) (something (begins f ws)) a)
+    ∙ (ap (λ (r : Result Lead Mistake). bytes_of ws (something (led f ws r))) l
+    ∙ (ap (λ (o : Option Verb). bytes_of ws (something (verbed f (lead who p) ws o))) e
+    ∙ (ap (λ (r : Result Speech Mistake). bytes_of ws (something (spoke (addressee f who) r))) g ∙ ap (λ (x : List ℕ). Ok x) h)))
 
 by_name : (who : ℕ) (v : List ℕ) (args : Words) (verb : Verb) (bs : List ℕ) (b : Bool) → eqb who 0 ≡ b → who ≤ 64 → Fair v → verb_of v ≡ Some verb → Says Script who verb args bs → line_bytes Script (cond b (codes "house" ∷ []) (codes "box" ∷ decimal who ∷ []) ++ v ∷ args) ≡ Ok bs
 by_name who v args verb bs true z p fair e says =

@@ -2,7 +2,9 @@ pub mod Appending
 pub mod Copies
 pub mod Cutting
 pub mod Digits
+pub mod Failing
 pub mod Fields
+pub mod Figures
 pub mod Firsts
 pub mod Inverse
 pub mod Leading
@@ -11,13 +13,11 @@ pub mod Naming
 pub mod Nibbles
 pub mod Numerals
 pub mod Pairs
-pub mod Putting
 pub mod Readings
 pub mod RoundTrip
 pub mod Saying
 pub mod Sentences
 pub mod Spelling
 pub mod Splitting
-pub mod Telling
 pub mod Whole
 pub mod Writings

@@ -1,13 +1,11 @@
 -- A line that was written is read back, and the reading goes on behind it.
-use Rattle.std.proofs.Common.{◌≡◌, ℕ, ◌+◌, ◌≤◌, Bool, true, false, cond, eqb, List, [], ◌∷◌, ◌++◌, Some, Ok, codes, decimal, sym, refl, ap, ◌∙◌, subst, arith}
+use Rattle.std.proofs.Common.{◌≡◌, ℕ, ◌+◌, ◌≤◌, Bool, true, false, cond, eqb, List, [], ◌∷◌, ◌++◌, Some, None, Ok, codes, decimal, sym, refl, ap, ◌∙◌, subst, arith}
 use Rattle.std.proofs.lemmas.List.{append-nil, append_assoc}
-use Rattle.std.proofs.lemmas.Bool.{eqb-true, eqb-false}
 use Rattle.wire.specs.declared.message.Message.TheVariants as m
 use Rattle.wire.specs.Message.{encoded}
 use Rattle.text.specs.declared.form.Form.{Form}
 use Rattle.text.specs.declared.kind.Verb.{Verb}
 use Rattle.text.specs.declared.kind.Verb.TheVariants as verb
-use Rattle.text.specs.declared.writing.Run.{Run}
 use Rattle.text.specs.Entry.{entry_bytes, copies}
 use Rattle.text.specs.Laws.{Party}
 use Rattle.text.specs.Line.{line_bytes}
@@ -16,7 +14,7 @@ use Rattle.text.specs.Read.{reading}
 use Rattle.text.specs.Speech.{Words}
 use Rattle.text.specs.Told.{spaced, lead_text, line_text, tick_words}
 use Rattle.text.specs.Verb.{verb_of}
-use Rattle.text.specs.Write.{run_text}
+use Rattle.text.specs.Write.{Waiting, run_text}
 use Rattle.text.proofs.Leading.{lead-words, line_back, line_spaced, line_fair}
 use Rattle.text.proofs.Numerals.{fair_decimal}
 use Rattle.text.proofs.Readings.{line_read}
@@ -48,14 +46,17 @@ fair_count : (n : ℕ) (b : Bool) → n ≤ 1000000 → Fairs (cond b [] (decima
 fair_count n true h = tt
 fair_count n false h = (fair_decimal n (omega arith), tt)
 
-run_by : (f : Form) (who n : ℕ) (out rest whole : List ℕ) (b : Bool) → eqb n 0 ≡ b → Party f who → n ≤ 1000000 → Reads f (out ++ copies n (tick_bytes f who)) rest whole → Reads f out (cond b [] (line_text f who (tick_words n)) ++ rest) whole
-unfolding copies
-run_by f who n out rest whole true z p h go =
-    let e : out ++ copies n (tick_bytes f who) ≡ out = ap (λ (k : ℕ). out ++ copies k (tick_bytes f who)) (eqb-true n 0 z) ∙ append-nil out in
-    subst (λ (o : List ℕ). Reads f o rest whole) e go
-run_by f who n out rest whole false z p h go =
-    let some : n ≡ 0 → ⊥ = eqb-false n 0 z in
-    line_reads f who (codes "tick") (cond (eqb n 1) [] (decimal n ∷ [])) verb.Tick (copies n (tick_bytes f who)) out rest whole p (record { plain = refl; some = omega arith }) (fair_count n (eqb n 1) h) refl (tick_says f who n (omega arith) h) go
+-- what waits is ticks of a party, at most what a line can say
+abbrev pub Sayable : Form → Waiting → Type 0
+Sayable f None = Unit {0}
+Sayable f (Some r) = (r.party.form ≡ f) × Party f r.party.who × (1 ≤ r.times) × (r.times ≤ 1000000)
 
-pub run-reads : (f : Form) (r : Run) (out rest whole : List ℕ) → Party f r.who → r.times ≤ 1000000 → Reads f (out ++ copies r.times (tick_bytes f r.who)) rest whole → Reads f out (run_text f r ++ rest) whole
-run-reads f r out rest whole p h go = run_by f r.who r.times out rest whole (eqb r.times 0) refl p h go
+abbrev pub waiting_bytes : Form → Waiting → List ℕ
+waiting_bytes f None = []
+waiting_bytes f (Some r) = copies r.times (tick_bytes f r.party.who)
+
+pub run-reads : (f : Form) (r : Waiting) (out rest whole : List ℕ) → Sayable f r → Reads f (out ++ waiting_bytes f r) rest whole → Reads f out (run_text r ++ rest) whole
+run-reads f None out rest whole p go = subst (λ (o : List ℕ). Reads f o rest whole) (append-nil out) go
+run-reads f (Some r) out rest whole p go =
+    subst (λ (g : Form). Reads f out (line_text g r.party.who (tick_words r.times) ++ rest) whole) (sym p.0)
+    (line_reads f r.party.who (codes "tick") (cond (eqb r.times 1) [] (decimal r.times ∷ [])) verb.Tick (copies r.times (tick_bytes f r.party.who)) out rest whole p.1 (record { plain = refl; some = omega arith }) (fair_count r.times (eqb r.times 1) p.3) refl (tick_says f r.party.who r.times p.2 p.3) go)

@@ -14,17 +14,16 @@ use Rattle.text.specs.declared.form.Form.{Form}
 use Rattle.text.specs.declared.kind.Kind.{Kind}
 use Rattle.text.specs.declared.kind.Verb.{Verb}
 use Rattle.text.specs.declared.kind.Verb.TheVariants as verb
-use Rattle.text.specs.declared.sentence.Figures.{Figures}
 use Rattle.text.specs.declared.speech.Speech.{Speech}
 use Rattle.text.specs.declared.speech.Speech.TheVariants.{Say, Ticks, Raw}
 use Rattle.text.specs.Decimal.{number_of}
 use Rattle.text.specs.Entry.{head, entry_bytes, copies}
 use Rattle.text.specs.Field.{range}
 use Rattle.text.specs.Hex.{pairs, written, meant}
-use Rattle.text.specs.Kind.{fields, count}
+use Rattle.text.specs.Kind.{fields}
 use Rattle.text.specs.Line.{speech_bytes}
-use Rattle.text.specs.Sentence.{figures, message_of}
-use Rattle.text.specs.Speech.{Words, word, absent, mistake, ranged, figure_at, figure_if, all, ended, told, concluded, repeating, speech_of}
+use Rattle.text.specs.Sentence.{message_of}
+use Rattle.text.specs.Speech.{Words, word, absent, mistake, ranged, figure_at, figures_at, ended, told, concluded, repeating, speech_of}
 use Rattle.text.proofs.Nibbles.{Hexed, hexed}
 use Rattle.text.proofs.Numerals.{number_back, fair_decimal}
 
@@ -94,22 +93,16 @@ raw_by f who mes false h a l q ws e =
 pub raw_says : (f : Form) (who : ℕ) (mes : List ℕ) → AllByRecursion (λ x. x < 256) mes → length mes ≤ 255 → Says f who verb.Bytes (cond (eqb (length mes) 0) [] (written mes ∷ [])) (entry_bytes f who mes)
 raw_says f who mes a l = raw_by f who mes (eqb (length mes) 0) refl a l
 
-all_back : (p q r : Result ℕ Mistake) (a b c : ℕ) → p ≡ Ok a → q ≡ Ok b → r ≡ Ok c → all p q r ≡ Ok (figures a b c)
-all_back p q r a b c e f g =
-    ap (λ (x : Result ℕ Mistake). all x q r) e ∙ (ap (λ (x : Result ℕ Mistake). all (Ok a) x r) f ∙ ap (λ (x : Result ℕ Mistake). all (Ok a) (Ok b) x) g)
-
 -- the numbers stand where the kind has them, and nothing behind them
-pub record Stand (k : Kind) (a b c : ℕ) (q : ℕ) (ws : Words) : Type 0 where
-  pub first : figure_if (fields k).first q ws ≡ Ok a
-  pub second : figure_if (fields k).second (q + 1) ws ≡ Ok b
-  pub third : figure_if (fields k).third (q + 2) ws ≡ Ok c
-  pub last : word (q + count k) ws ≡ []
+pub record Stand (k : Kind) (ns : List ℕ) (q : ℕ) (ws : Words) : Type 0 where
+  pub numbers : figures_at k q ws ≡ Ok ns
+  pub last : word (q + length (fields k)) ws ≡ []
 
-pub said_by : (k : Kind) (a b c : ℕ) (mes : Message) (f : Form) (who : ℕ) (args : Words) → ((q : ℕ) (ws : Words) → drop q ws ≡ args → Stand k a b c q ws) → message_of k (figures a b c) ≡ Some mes → Says f who (verb.Say k) args (entry_bytes f who (encoded mes))
-said_by k a b c mes f who args h e q ws d =
+pub said_by : (k : Kind) (ns : List ℕ) (mes : Message) (f : Form) (who : ℕ) (args : Words) → ((q : ℕ) (ws : Words) → drop q ws ≡ args → Stand k ns q ws) → message_of k ns ≡ Some mes → Says f who (verb.Say k) args (entry_bytes f who (encoded mes))
+said_by k ns mes f who args h e q ws d =
     let s = h q ws d in (
       Say mes,
-      ap (λ (x : Result Figures Mistake). concluded k q ws x) (all_back _ _ _ a b c s.first s.second s.third)
-          ∙ (ended_back (q + count k) ws (told q (message_of k (figures a b c))) s.last ∙ ap (told q) e),
+      ap (λ (x : Result (List ℕ) Mistake). concluded k q ws x) s.numbers
+          ∙ (ended_back (q + length (fields k)) ws (told q (message_of k ns)) s.last ∙ ap (told q) e),
       refl,
     )

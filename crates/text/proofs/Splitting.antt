@@ -1,17 +1,16 @@
 -- The entries of some bytes, from the front.
-use Rattle.std.proofs.Common.{◌≡◌, ℕ, zero, suc, ◌<◌, ◌≤◌, ltb, List, [], ◌∷◌, length, take, drop, Ok, sym, refl, ap, ◌∙◌, subst, arith, length-drop}
+use Rattle.std.proofs.Common.{◌≡◌, ℕ, zero, suc, ◌<◌, ◌≤◌, ltb, List, [], ◌∷◌, length, take, drop, Ok, sym, refl, ap, ◌∙◌, subst, arith, length-drop, Err}
 use Rattle.std.proofs.lemmas.Bool.{cond_both}
 use Rattle.text.specs.declared.fault.Breach.TheVariants.{Short, Party}
 use Rattle.text.specs.declared.form.Form.{Form}
 use Rattle.text.specs.declared.form.Form.TheVariants.{Script, Stream}
-use Rattle.text.specs.Entries.{Entry, entry, First, Found, framed_first, first_entry, rest_of, from_first, entries_by, entries}
-use Rattle.text.specs.Entries.First.{whole, broken}
+use Rattle.text.specs.Entries.{Entry, entry, First, Found, framed_first, first_entry, rest_of, from_first, entries_by, entries, whole}
 
 framed_less : (who : ℕ) (bs : List ℕ) → 0 < length bs → length (rest_of (framed_first who bs)) < length bs
 framed_less who [] h = absurd (omega arith)
 framed_less who (n ∷ bs) h =
     let d = length-drop n bs in
-    cond_both (ltb (length bs) n) (broken Short) (whole (entry who (take n bs)) (drop n bs)) (λ x. length (rest_of x) < suc (length bs)) (λ e. omega arith) (λ e. omega arith)
+    cond_both (ltb (length bs) n) (Err Short) (whole (entry who (take n bs)) (drop n bs)) (λ x. length (rest_of x) < suc (length bs)) (λ e. omega arith) (λ e. omega arith)
 
 framed_le : (who : ℕ) (bs : List ℕ) → length (rest_of (framed_first who bs)) ≤ length bs
 framed_le who [] = omega arith
@@ -22,7 +21,7 @@ shrinks Stream bs h = framed_less 0 bs h
 shrinks Script [] h = absurd (omega arith)
 shrinks Script (who ∷ bs) h =
     let l = framed_le who bs in
-    cond_both (ltb 64 who) (broken (Party who)) (framed_first who bs) (λ x. length (rest_of x) < suc (length bs)) (λ e. omega arith) (λ e. omega arith)
+    cond_both (ltb 64 who) (Err (Party who)) (framed_first who bs) (λ x. length (rest_of x) < suc (length bs)) (λ e. omega arith) (λ e. omega arith)
 
 -- more turns than bytes change nothing
 enough : (t u : ℕ) (f : Form) (bs : List ℕ) → length bs ≤ t → length bs ≤ u → entries_by t f bs ≡ entries_by u f bs

@@ -1,13 +1,12 @@
 -- The entries of the bytes of entries are these.
-use Rattle.std.proofs.Common.{◌≡◌, ℕ, ◌<◌, ltb, List, [], ◌∷◌, ◌++◌, length, Ok, sym, refl, ap, ◌∙◌, arith}
+use Rattle.std.proofs.Common.{◌≡◌, ℕ, ◌<◌, ltb, List, [], ◌∷◌, ◌++◌, length, Ok, sym, refl, ap, ◌∙◌, arith, Err}
 use Rattle.std.proofs.lemmas.Bool.{cond-false, le-ltb}
 use Rattle.std.specs.List.{AllByRecursion}
 use Rattle.wire.specs.Stream.{framed}
 use Rattle.text.specs.declared.fault.Breach.TheVariants as breach
 use Rattle.text.specs.declared.form.Form.{Form}
 use Rattle.text.specs.declared.form.Form.TheVariants.{Script, Stream}
-use Rattle.text.specs.Entries.{Entry, entry, Found, framed_first, first_entry, behind, entries, bytes_of}
-use Rattle.text.specs.Entries.First.{whole, broken}
+use Rattle.text.specs.Entries.{Entry, entry, Found, framed_first, first_entry, behind, entries, bytes_of, whole}
 use Rattle.text.specs.Entry.{entry_bytes}
 use Rattle.text.specs.Laws.{Good}
 use Rattle.text.proofs.Firsts.{framed-whole}
@@ -17,7 +16,7 @@ first_of : (f : Form) (e : Entry) (rest : List ℕ) → Good f e → whole e res
 first_of Stream e rest g =
     sym (framed-whole 0 (framed e.message ++ rest) e.message rest refl ∙ ap (λ (w : ℕ). whole (entry w e.message) rest) (sym g.party))
 first_of Script e rest g =
-    sym (cond-false (ltb 64 e.who) (broken (breach.Party e.who)) (framed_first e.who (framed e.message ++ rest)) (le-ltb 64 e.who g.party) ∙ framed-whole e.who (framed e.message ++ rest) e.message rest refl)
+    sym (cond-false (ltb 64 e.who) (Err (breach.Party e.who)) (framed_first e.who (framed e.message ++ rest)) (le-ltb 64 e.who g.party) ∙ framed-whole e.who (framed e.message ++ rest) e.message rest refl)
 
 some : (f : Form) (who : ℕ) (m rest : List ℕ) → 0 < length (entry_bytes f who m ++ rest)
 some Stream who m rest = omega arith

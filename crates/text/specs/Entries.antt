@@ -1,8 +1,7 @@
 -- The entries of a script or a stream, from their bytes.
 -- Assumes nothing: bytes that are none have their first bad entry.
 use Rattle.std.specs.Prelude.{ℕ, zero, suc, cond, List, [], ◌∷◌, ◌++◌, length, take, drop, Ok, Err, Result, nat_lt}
-use Rattle.text.specs.declared.entry.Next.{Next}
-use Rattle.text.specs.declared.entry.Next.TheVariants as next
+use Rattle.text.specs.declared.entry.Entry as program
 use Rattle.text.specs.declared.fault.Breach.{Breach}
 use Rattle.text.specs.declared.fault.Breach.TheVariants.{Short, Party}
 use Rattle.text.specs.declared.field.Field.TheVariants as field
@@ -19,26 +18,28 @@ abbrev pub entry : ℕ → List ℕ → Entry
 entry who m = record { who = who; message = m }
 
 -- how bytes begin: with an entry and what is behind it, or with a bad one
-pub data First : Type 0 where
-  whole : Entry → List ℕ → First
-  broken : Breach → First
+abbrev pub First : Type 0
+First = Result (Entry × List ℕ) Breach
+
+abbrev pub whole : Entry → List ℕ → First
+whole e rest = Ok (e, rest)
 
 abbrev pub framed_first : ℕ → List ℕ → First
-framed_first who [] = broken Short
-framed_first who (n ∷ bs) = cond (nat_lt (length bs) n) (broken Short) (whole (entry who (take n bs)) (drop n bs))
+framed_first who [] = Err Short
+framed_first who (n ∷ bs) = cond (nat_lt (length bs) n) (Err Short) (whole (entry who (take n bs)) (drop n bs))
 
 abbrev pub first_entry : Form → List ℕ → First
 first_entry Stream bs = framed_first 0 bs
-first_entry Script [] = broken Short
-first_entry Script (who ∷ bs) = cond (nat_lt (range field.Party).most who) (broken (Party who)) (framed_first who bs)
+first_entry Script [] = Err Short
+first_entry Script (who ∷ bs) = cond (nat_lt (range field.Party).most who) (Err (Party who)) (framed_first who bs)
 
-abbrev pub first_of : Next → First
-first_of (next.Entry who message rest) = whole (entry who message.now) rest.now
-first_of (next.Broken b) = broken b
+abbrev pub first_of : Result program.Entry Breach → First
+first_of (Ok e) = whole (entry e.who e.message.now) e.rest.now
+first_of (Err b) = Err b
 
 abbrev pub rest_of : First → List ℕ
-rest_of (whole e rest) = rest
-rest_of (broken b) = []
+rest_of (Ok p) = p.1
+rest_of (Err b) = []
 
 -- an entry that is none, and how many bytes there are from it on
 pub record Bad : Type 0 where
@@ -53,8 +54,8 @@ behind e (Ok es) = Ok (e ∷ es)
 behind e (Err b) = Err b
 
 abbrev pub from_first : ℕ → First → Found → Found
-from_first left (whole e rest) found = behind e found
-from_first left (broken b) found = Err (record { left = left; breach = b })
+from_first left (Ok p) found = behind p.0 found
+from_first left (Err b) found = Err (record { left = left; breach = b })
 
 -- by at most so many entries
 unfoldable pub entries_by : ℕ → Form → List ℕ → Found

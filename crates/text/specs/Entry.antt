@@ -2,8 +2,12 @@
 -- Assumes nothing.
 use Rattle.std.specs.Prelude.{ℕ, zero, suc, List, [], ◌∷◌, ◌++◌}
 use Rattle.wire.specs.Stream.{framed}
+use Rattle.text.specs.declared.form.Addressee.{Addressee}
 use Rattle.text.specs.declared.form.Form.{Form}
 use Rattle.text.specs.declared.form.Form.TheVariants.{Script, Stream}
+
+abbrev pub addressee : Form → ℕ → Addressee
+addressee f who = record { form = f; who = who }
 
 abbrev pub head : Form → ℕ → List ℕ
 head Script who = who ∷ []

@@ -12,4 +12,5 @@ pub mod Sentence
 pub mod Speech
 pub mod Told
 pub mod Verb
+pub mod Words
 pub mod Write

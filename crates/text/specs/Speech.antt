@@ -1,6 +1,6 @@
 -- What the words of a line say, by the verb and what stands behind it.
 -- Assumes nothing: where a word is missing an empty one is read.
-use Rattle.std.specs.Prelude.{ℕ, ◌+◌, ◌/◌, Bool, cond, List, [], length, Some, None, Ok, Err, Option, Result, ◌==◌, nat_lt, slice_index_or}
+use Rattle.std.specs.Prelude.{ℕ, ◌+◌, ◌/◌, Bool, cond, List, [], ◌∷◌, ◌++◌, length, take, Some, None, Ok, Err, Option, Result, ◌==◌, nat_lt, slice_index_or}
 use Rattle.wire.specs.declared.message.Message as wire
 use Rattle.text.specs.declared.fault.Expected.{Expected}
 use Rattle.text.specs.declared.fault.Expected.TheVariants.{Number, FewerBytes, Nothing}
@@ -11,13 +11,12 @@ use Rattle.text.specs.declared.field.Field.TheVariants.{Fault, Times}
 use Rattle.text.specs.declared.kind.Kind.{Kind}
 use Rattle.text.specs.declared.kind.Verb.{Verb}
 use Rattle.text.specs.declared.kind.Verb.TheVariants as verb
-use Rattle.text.specs.declared.sentence.Figures.{Figures}
 use Rattle.text.specs.declared.speech.Speech.{Speech}
 use Rattle.text.specs.declared.speech.Speech.TheVariants.{Say, Ticks, Raw}
 use Rattle.text.specs.Decimal.{number_of}
 use Rattle.text.specs.Field.{range}
 use Rattle.text.specs.Hex.{pairs}
-use Rattle.text.specs.Kind.{fields, count}
+use Rattle.text.specs.Kind.{fields}
 use Rattle.text.specs.Sentence.{figures, message_of}
 
 abbrev pub Words : Type 0
@@ -40,20 +39,25 @@ ranged f place (Some n) = cond (nat_lt n (range f).least) (Err (mistake (Number 
 abbrev pub figure_at : Field → ℕ → Words → Result ℕ Mistake
 figure_at f place ws = ranged f place (number_of (range f).most (word place ws))
 
-abbrev pub figure_if : Option Field → ℕ → Words → Result ℕ Mistake
-figure_if None place ws = Ok 0
-figure_if (Some f) place ws = figure_at f place ws
+-- a number before those behind it; the first mistake is the one that counts
+abbrev pub figure_before : Result ℕ Mistake → Result (List ℕ) Mistake → Result (List ℕ) Mistake
+figure_before (Err m) r = Err m
+figure_before (Ok n) (Err m) = Err m
+figure_before (Ok n) (Ok ns) = Ok (n ∷ ns)
 
-abbrev pub all : (a b c : Result ℕ Mistake) → Result Figures Mistake
-all (Err m) b c = Err m
-all (Ok x) (Err m) c = Err m
-all (Ok x) (Ok y) (Err m) = Err m
-all (Ok x) (Ok y) (Ok z) = Ok (figures x y z)
+-- the numbers of these fields, one after the other from this place on
+abbrev pub figures_of : ℕ → Words → List Field → Result (List ℕ) Mistake
+figures_of place ws [] = Ok []
+figures_of place ws (f ∷ fs) = figure_before (figure_at f place ws) (figures_of (place + 1) ws fs)
 
--- the first that is no number of its field is the mistake
-abbrev pub figures_at : Kind → ℕ → Words → Result Figures Mistake
-figures_at k place ws =
-    all (figure_if (fields k).first place ws) (figure_if (fields k).second (place + 1) ws) (figure_if (fields k).third (place + 2) ws)
+-- three in all: those that a kind has not are 0
+abbrev pub padded : Result (List ℕ) Mistake → Result (List ℕ) Mistake
+padded (Err m) = Err m
+padded (Ok ns) = Ok (take 3 (ns ++ figures 0 0 0))
+
+-- the numbers of a message of this kind
+abbrev pub figures_at : Kind → ℕ → Words → Result (List ℕ) Mistake
+figures_at k place ws = padded (figures_of place ws (fields k))
 
 -- nothing stands behind what a line says
 abbrev pub ended : ℕ → Words → Result Speech Mistake → Result Speech Mistake
@@ -63,9 +67,9 @@ abbrev pub told : ℕ → Option wire.Message → Result Speech Mistake
 told place None = Err (mistake (Number Fault) place)
 told place (Some m) = Ok (Say m)
 
-abbrev pub concluded : Kind → ℕ → Words → Result Figures Mistake → Result Speech Mistake
+abbrev pub concluded : Kind → ℕ → Words → Result (List ℕ) Mistake → Result Speech Mistake
 concluded k place ws (Err m) = Err m
-concluded k place ws (Ok f) = ended (place + count k) ws (told place (message_of k f))
+concluded k place ws (Ok ns) = ended (place + length (fields k)) ws (told place (message_of k ns))
 
 abbrev pub said_at : Kind → ℕ → Words → Result Speech Mistake
 said_at k place ws = concluded k place ws (figures_at k place ws)

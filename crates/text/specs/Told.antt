@@ -1,7 +1,6 @@
 -- The text of an entry: a line of words with a space between each two.
 -- Assumes nothing.
-use Rattle.std.specs.Prelude.{ℕ, cond, List, [], ◌∷◌, ◌++◌, length, Some, None, codes, decimal, Option, ◌==◌}
-use Rattle.text.specs.declared.field.Field.{Field}
+use Rattle.std.specs.Prelude.{ℕ, cond, List, [], ◌∷◌, ◌++◌, length, codes, decimal, map, take, ◌==◌}
 use Rattle.text.specs.declared.form.Form.{Form}
 use Rattle.text.specs.declared.form.Form.TheVariants.{Script, Stream}
 use Rattle.text.specs.declared.sentence.Sentence.{Sentence}
@@ -28,14 +27,9 @@ lead_text Script who = cond (who == 0) (codes "house ") (codes "box " ++ (decima
 abbrev pub line_text : Form → ℕ → Words → List ℕ
 line_text f who ws = lead_text f who ++ (spaced ws ++ newline ∷ [])
 
-abbrev pub figure_words : Option Field → ℕ → Words
-figure_words None n = []
-figure_words (Some f) n = decimal n ∷ []
-
+-- the kind's word, and the numbers that it has
 abbrev pub said_words : Sentence → Words
-said_words s =
-    name s.kind
-    ∷ figure_words (fields s.kind).first s.figures.first ++ (figure_words (fields s.kind).second s.figures.second ++ figure_words (fields s.kind).third s.figures.third)
+said_words s = name s.kind ∷ map decimal (take (length (fields s.kind)) s.figures)
 
 -- one tick has no number
 abbrev pub tick_words : ℕ → Words

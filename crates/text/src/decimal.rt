@@ -1,33 +1,25 @@
 ghost use Rattle.std.specs.Prelude.{◌≡◌, ◌≤◌, ◌++◌, IfSome, decimal, OnOk};
 ghost use Rattle.text.specs.Decimal.{longer, number_of};
 
+use itoa::Buffer;
 use std::alloc::AllocError;
 
 // Appends the number's digits.
 pub fn write_decimal(n: u64, out: &mut Vec<u8>) -> Result<(), AllocError>
     ensures { OnOk result (out.new.items ≡ out.old.items ++ decimal n) }
 {
-    if n >= 10 {
-        write_decimal(n / 10, out)?;
-    }
-    out.push(b'0' + (n % 10) as u8)?;
-    Ok(())
+    let mut buffer = Buffer::new();
+    out.extend_from_slice(buffer.format(n).as_bytes())
 }
 
 // The number with one more digit behind it, if that is a digit and does not bring it past `most`.
 fn with_digit(n: u64, byte: u8, most: u64) -> Option<u64>
-    requires { n ≤ most }
     ensures value { result ≡ longer most n byte }
     ensures within { IfSome result (λ next. next ≤ most) }
 {
-    if byte < b'0' || byte > b'9' {
-        return None;
-    }
-    let next = u128::from(n) * 10 + u128::from(byte - b'0');
-    if next > u128::from(most) {
-        return None;
-    }
-    Some(next as u64)
+    let digit = char::from(byte).to_digit(10)?;
+    let next = n.checked_mul(10)?.checked_add(u64::from(digit))?;
+    (next <= most).then_some(next)
 }
 
 // The number that a word says, if it is one and at most `most`.

@@ -4,45 +4,40 @@ ghost use Rattle.text.specs.Entries.{first_entry, first_of, framed_first};
 use crate::fault::Breach;
 use crate::field::Field;
 use crate::form::Form;
-use wire::{Next as Framed, next_message};
+use wire::{Next, next_message};
 
-// What the bytes of a script or a stream begin with.
+// An entry of a script or a stream, and the bytes behind it.
+// script says only where the bad entry begins; here also why, and of a stream too.
 #[derive(Clone, Copy)]
-pub enum Next<'a> {
-    Entry {
-        who: u8,
-        message: &'a [u8],
-        rest: &'a [u8],
-    },
-    Broken(Breach),
+pub struct Entry<'a> {
+    // 0 in a stream: an Option would be Some in every script and None in every stream, which the form says already
+    pub who: u8,
+    pub message: &'a [u8],
+    pub rest: &'a [u8],
 }
 
-fn next_framed(who: u8, bytes: &[u8]) -> Next<'_>
+fn next_framed(who: u8, bytes: &[u8]) -> Result<Entry<'_>, Breach>
     ensures { first_of result ≡ framed_first who bytes.now }
 {
     match next_message(bytes) {
-        Framed::Message { bytes, rest } => Next::Entry {
-            who,
-            message: bytes,
+        Next::Message {
+            bytes: message,
             rest,
-        },
-        Framed::End => Next::Broken(Breach::Short),
-        Framed::Cut => Next::Broken(Breach::Short),
+        } => Ok(Entry { who, message, rest }),
+        Next::End | Next::Cut => Err(Breach::Short),
     }
 }
 
-// The first entry, and the bytes behind it; there is to be one.
-pub fn next_entry(form: Form, bytes: &[u8]) -> Next<'_>
+// The first entry; there is to be one.
+pub fn next_entry(form: Form, bytes: &[u8]) -> Result<Entry<'_>, Breach>
     ensures { first_of result ≡ first_entry form bytes.now }
 {
     match form {
         Form::Stream => next_framed(0, bytes),
         Form::Script => {
-            let Some((who, after)) = bytes.split_first() else {
-                return Next::Broken(Breach::Short);
-            };
+            let (who, after) = bytes.split_first().ok_or(Breach::Short)?;
             if u64::from(*who) > Field::Party.most() {
-                return Next::Broken(Breach::Party(*who));
+                return Err(Breach::Party(*who));
             }
             next_framed(*who, after)
         }

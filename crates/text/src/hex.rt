@@ -1,8 +1,10 @@
-ghost use Rattle.std.specs.Prelude.{◌≡◌, ◌<◌, ◌++◌, OnOk};
-ghost use Rattle.text.specs.Hex.{digit, nibble, pair, pairs, written, meant};
+// The crate hex wants a buffer of the exact length and may refuse; here the words were judged and the vector grows.
+ghost use Rattle.std.specs.Prelude.{◌≡◌, ◌<◌, ◌++◌, ◌||◌, OnOk};
+ghost use Rattle.text.specs.Hex.{digit, nibble, pairs, six, ten, written, meant};
 
 use std::alloc::AllocError;
 
+// char::from_digit takes 32 bits and gives an Option of a char: three conversions in place of this line.
 fn digit_of(n: u8) -> u8
     requires { n < 16 }
     ensures { result ≡ digit n }
@@ -10,7 +12,8 @@ fn digit_of(n: u8) -> u8
     if n < 10 { b'0' + n } else { b'a' - 10 + n }
 }
 
-// What a digit stands for; another byte stands for 0.
+// What a digit stands for; another byte stands for 0, as in `nibble`, since `is_hex` has judged the word before.
+// char::to_digit takes upper digits too.
 fn value_of(byte: u8) -> u8
     ensures value { result ≡ nibble byte }
     ensures small { result < 16 }
@@ -22,40 +25,26 @@ fn value_of(byte: u8) -> u8
     }
 }
 
-fn is_pair(high: u8, low: u8) -> bool
-    ensures { result ≡ pair high low }
+fn is_digit(byte: u8) -> bool
+    ensures { result ≡ (ten byte || six byte) }
 {
-    matches!(high, b'0'..=b'9' | b'a'..=b'f') && matches!(low, b'0'..=b'9' | b'a'..=b'f')
+    matches!(byte, b'0'..=b'9' | b'a'..=b'f')
 }
 
 // Whether the word is whole bytes in lower hexadecimal digits.
 pub fn is_hex(word: &[u8]) -> bool
     ensures { result ≡ pairs word.now }
 {
-    let mut rest = word;
-    while let Some((high, tail)) = rest.split_first() {
-        let Some((low, after)) = tail.split_first() else {
-            return false;
-        };
-        if !is_pair(*high, *low) {
-            return false;
-        }
-        rest = after;
-    }
-    true
+    word.len() % 2 == 0 && word.iter().all(|byte| is_digit(*byte))
 }
 
 // Appends the bytes that the word's digits say.
 pub fn read_hex(word: &[u8], out: &mut Vec<u8>) -> Result<(), AllocError>
     ensures { OnOk result (out.new.items ≡ out.old.items ++ meant word.now) }
 {
-    let mut rest = word;
-    while let Some((high, tail)) = rest.split_first() {
-        let Some((low, after)) = tail.split_first() else {
-            break;
-        };
+    let (pairs, _) = word.as_chunks::<2>();
+    for [high, low] in pairs {
         out.push(value_of(*high) * 16 + value_of(*low))?;
-        rest = after;
     }
     Ok(())
 }
@@ -65,8 +54,7 @@ pub fn write_hex(bytes: &[u8], out: &mut Vec<u8>) -> Result<(), AllocError>
     ensures { OnOk result (out.new.items ≡ out.old.items ++ written bytes.now) }
 {
     for byte in bytes {
-        out.push(digit_of(*byte / 16))?;
-        out.push(digit_of(*byte % 16))?;
+        out.extend_from_slice(&[digit_of(*byte / 16), digit_of(*byte % 16)])?;
     }
     Ok(())
 }

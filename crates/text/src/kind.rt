@@ -1,12 +1,11 @@
-ghost use Rattle.std.specs.Prelude.{◌≡◌};
-ghost use Rattle.text.specs.Kind.{name as kind-name, kind_of, fields as kind-fields, count as kind-count};
+ghost use Rattle.std.specs.Prelude.{◌≡◌, ◌≤◌, length};
+ghost use Rattle.text.specs.Kind.{name as kind-name, fields as kind-fields};
 ghost use Rattle.text.specs.Verb.{name as verb_name, verb_of};
 
 use crate::field::Field;
-use crate::piece::same;
 
 // What a line with a known message is about, but for a tick.
-#[derive(Clone, Copy)]
+#[derive(Clone, Copy, Debug, PartialEq, Eq)]
 pub enum Kind {
     Settings,
     Number,
@@ -20,16 +19,8 @@ pub enum Kind {
     Fault,
 }
 
-// The numbers that a message of a kind has, in their order.
-#[derive(Clone, Copy)]
-pub struct Fields {
-    pub first: Option<Field>,
-    pub second: Option<Field>,
-    pub third: Option<Field>,
-}
-
 // What a line says, by its first word behind the party.
-#[derive(Clone, Copy)]
+#[derive(Clone, Copy, Debug, PartialEq, Eq)]
 pub enum Verb {
     Tick,
     Bytes,
@@ -37,6 +28,7 @@ pub enum Verb {
 }
 
 impl Kind {
+    // Bytes, as a text is: a Display would make of failed memory another error.
     pub fn name(self) -> &'static [u8]
         ensures { result.now ≡ kind-name self }
     {
@@ -54,73 +46,41 @@ impl Kind {
         }
     }
 
-    // The kind that has this name.
-    fn named(word: &[u8]) -> Option<Kind>
-        ensures { result ≡ kind_of word.now }
-    {
-        for kind in [
-            Kind::Settings,
-            Kind::Number,
-            Kind::Nonce,
-            Kind::Request,
-            Kind::Grant,
-            Kind::Crash,
-            Kind::Restart,
-            Kind::InUse,
-            Kind::NoAddress,
-            Kind::Fault,
-        ] {
-            if same(kind.name(), word) {
-                return Some(kind);
-            }
-        }
-        None
-    }
-
-    pub fn fields(self) -> Fields
-        ensures { result ≡ kind-fields self }
-    {
-        let (first, second, third) = match self {
-            Kind::Settings => (Some(Field::Addresses), Some(Field::Term), Some(Field::Skew)),
-            Kind::Number => (Some(Field::Client), None, None),
-            Kind::Nonce => (Some(Field::Nonce), None, None),
-            Kind::Request => (
-                Some(Field::Client),
-                Some(Field::Nonce),
-                Some(Field::Preferred),
-            ),
-            Kind::Grant => (
-                Some(Field::Client),
-                Some(Field::Nonce),
-                Some(Field::Address),
-            ),
-            Kind::Crash => (None, None, None),
-            Kind::Restart => (Some(Field::Clock), None, None),
-            Kind::InUse => (Some(Field::Address), Some(Field::Until), None),
-            Kind::NoAddress => (None, None, None),
-            Kind::Fault => (Some(Field::Fault), None, None),
-        };
-        Fields {
-            first,
-            second,
-            third,
-        }
-    }
-
-    // How many numbers a message of this kind has.
-    pub fn count(self) -> usize
-        ensures { result ≡ kind-count self }
+    // The numbers that a message of the kind has, in their order.
+    pub fn fields(self) -> &'static [Field]
+        ensures value { result.now ≡ kind-fields self }
+        ensures few { length result.now ≤ 3 }
     {
         match self {
-            Kind::Crash | Kind::NoAddress => 0,
-            Kind::Number | Kind::Nonce | Kind::Restart | Kind::Fault => 1,
-            Kind::InUse => 2,
-            Kind::Settings | Kind::Request | Kind::Grant => 3,
+            Kind::Settings => &[Field::Addresses, Field::Term, Field::Skew],
+            Kind::Number => &[Field::Client],
+            Kind::Nonce => &[Field::Nonce],
+            Kind::Request => &[Field::Client, Field::Nonce, Field::Preferred],
+            Kind::Grant => &[Field::Client, Field::Nonce, Field::Address],
+            Kind::Restart => &[Field::Clock],
+            Kind::InUse => &[Field::Address, Field::Until],
+            Kind::Fault => &[Field::Fault],
+            Kind::Crash | Kind::NoAddress => &[],
         }
     }
 }
 
 impl Verb {
+    const ALL: [Verb; 12] = [
+        Verb::Tick,
+        Verb::Bytes,
+        Verb::Say(Kind::Settings),
+        Verb::Say(Kind::Number),
+        Verb::Say(Kind::Nonce),
+        Verb::Say(Kind::Request),
+        Verb::Say(Kind::Grant),
+        Verb::Say(Kind::Crash),
+        Verb::Say(Kind::Restart),
+        Verb::Say(Kind::InUse),
+        Verb::Say(Kind::NoAddress),
+        Verb::Say(Kind::Fault),
+    ];
+
     pub fn name(self) -> &'static [u8]
         ensures { result.now ≡ verb_name self }
     {
@@ -135,15 +95,6 @@ impl Verb {
     pub fn named(word: &[u8]) -> Option<Verb>
         ensures { result ≡ verb_of word.now }
     {
-        if same(Verb::Tick.name(), word) {
-            return Some(Verb::Tick);
-        }
-        if same(Verb::Bytes.name(), word) {
-            return Some(Verb::Bytes);
-        }
-        match Kind::named(word) {
-            Some(kind) => Some(Verb::Say(kind)),
-            None => None,
-        }
+        Verb::ALL.iter().find(|verb| verb.name() == word).copied()
     }
 }

@@ -1,18 +1,21 @@
-ghost use Rattle.std.specs.Prelude.{◌≡◌, ◌-◌, [], slice_index_or};
+ghost use Rattle.std.specs.Prelude.{◌≡◌, ◌-◌, [], slice_index_or, Some};
 ghost use Rattle.text.specs.Pieces.{lines, words};
+ghost use Rattle.text.specs.Words.{field_words};
 
 use crate::fault::{Breach, Expected, ReadFault, WriteFault};
 use crate::field::Field;
-use crate::piece::{split, word_at};
+use crate::piece::word_at;
 use crate::reading::NEWLINE;
 use std::fmt;
 
 // So much of a word is shown.
 const SHOWN: usize = 40;
 
-impl Field {
-    fn text(self) -> &'static str {
-        match self {
+impl fmt::Display for Field {
+    ghost output = { λ field. Some (field_words field) };
+
+    fn fmt<W: fmt::Write>(&self, f: &mut fmt::Formatter<W>) -> fmt::Result {
+        f.write_str(match self {
             Field::Addresses => "the addresses",
             Field::Term => "the term",
             Field::Skew => "the skew",
@@ -25,7 +28,7 @@ impl Field {
             Field::Fault => "the fault",
             Field::Times => "how many ticks",
             Field::Party => "the box",
-        }
+        })
     }
 }
 
@@ -40,8 +43,7 @@ impl fmt::Display for Expected {
             Expected::Number(field) => {
                 let least = field.least();
                 let most = field.most();
-                let what = field.text();
-                write!(f, "a number from {least} to {most} for {what}")
+                write!(f, "a number from {least} to {most} for {field}")
             }
             Expected::Bytes => write!(f, "lower hexadecimal digits, two to a byte"),
             Expected::FewerBytes => write!(f, "at most 255 bytes"),
@@ -100,21 +102,13 @@ impl fmt::Display for Word<'_> {
 pub fn word_of(text: &[u8], line: usize, place: usize) -> &[u8]
     ensures { result.now ≡ slice_index_or (words (slice_index_or (lines text.now) (line - 1) [])) place [] }
 {
-    let mut rest = text;
-    let mut left = line.saturating_sub(1);
-    while !rest.is_empty() {
-        let parts = split(rest, NEWLINE);
-        if left == 0 {
-            return word_at(parts.first, place);
-        }
-        left -= 1;
-        rest = parts.rest;
-    }
-    rest
+    let mut lines = text.split(|byte| *byte == NEWLINE);
+    let line = lines.nth(line.saturating_sub(1)).unwrap_or(&[]);
+    word_at(line, place).unwrap_or(&[])
 }
 
 // Why a text is refused, with the word that is not what it should be.
-#[derive(Clone, Copy)]
+#[derive(Clone, Copy, Debug)]
 pub struct Report<'a> {
     pub text: &'a [u8],
     pub fault: ReadFault,

@@ -1,9 +1,9 @@
-ghost use Rattle.std.specs.Prelude.{◌≡◌, ◌≤◌, IfOk};
+ghost use Rattle.std.specs.Prelude.{◌≡◌, ◌≤◌, cond, IfOk};
 ghost use Rattle.text.specs.Kind.{fields as kind-fields};
 ghost use Rattle.text.specs.Field.{range};
 ghost use Rattle.text.specs.Pieces.{words};
-ghost use Rattle.text.specs.Sentence.{Fitting, Within};
-ghost use Rattle.text.specs.Speech.{absent, figure_at, figure_if, figures_at, mistake as mistaken, raw_at, said_at, speech_of, ticks_at};
+ghost use Rattle.text.specs.Sentence.{Fitting};
+ghost use Rattle.text.specs.Speech.{absent, figure_at, figures_at, mistake as mistaken, raw_at, said_at, speech_of, ticks_at};
 
 use crate::decimal::read_decimal;
 use crate::fault::{Expected, Mistake};
@@ -11,7 +11,7 @@ use crate::field::Field;
 use crate::hex::is_hex;
 use crate::kind::{Kind, Verb};
 use crate::piece::word_at;
-use crate::sentence::{Figures, message};
+use crate::sentence::message;
 use wire::Message;
 
 // What a line says of its party, without who that is.
@@ -20,124 +20,109 @@ pub enum Speech {
     Say(Message),
     // a tick so many times
     Ticks(u64),
-    // the bytes that the digits at this place say, and how many they are
+    // the bytes that the digits at this place say, and how many they are; a place and no borrow, since
+    // clauses take borrows for equal only where they lie at one place of memory, and a second enum
+    // of what is said, for the clauses alone, would be no plainer
     Raw { place: usize, size: u8 },
 }
 
 // Two digits to each of 255 bytes.
 const MOST_DIGITS: usize = 510;
 
-pub fn refuse(expected: Expected, place: usize) -> Mistake
-    ensures { result ≡ mistaken expected place }
+// A line is to end before a place: any, since the numbers can go past those at which a Rest begins.
+fn end(line: &[u8], place: usize) -> Result<(), Mistake>
+    ensures { result ≡ cond (absent place (words line.now)) (Ok tt) (Err (mistaken Expected.Nothing place)) }
 {
-    Mistake { expected, place }
+    if word_at(line, place).is_some() {
+        let expected = Expected::Nothing;
+        return Err(Mistake { expected, place });
+    }
+    Ok(())
 }
 
-fn is_absent(line: &[u8], place: usize) -> bool
-    ensures { result ≡ absent place (words line.now) }
-{
-    word_at(line, place).is_empty()
-}
-
-// The number that a line has at a place, if it is one that the field takes.
+// The number that a line has at a place, also that of its party, if it is one that the field takes.
 pub fn figure(line: &[u8], field: Field, place: usize) -> Result<u64, Mistake>
     ensures value { result ≡ figure_at field place (words line.now) }
     ensures within { IfOk result (λ n. n ≤ (range field).most) }
 {
-    match read_decimal(word_at(line, place), field.most()) {
-        Some(n) => {
-            if n < field.least() {
-                Err(refuse(Expected::Number(field), place))
-            } else {
-                Ok(n)
-            }
+    let expected = Expected::Number(field);
+    word_at(line, place)
+        .and_then(|word| read_decimal(word, field.most()))
+        .filter(|n| field.least() <= *n)
+        .ok_or(Mistake { expected, place })
+}
+
+// A line from a place on, where what stands behind its verb begins.
+#[derive(Clone, Copy)]
+pub struct Rest<'a> {
+    pub line: &'a [u8],
+    pub place: usize,
+    // a party has two words at most, and then there is the verb
+    pub ghost near: { place ≤ 3 },
+}
+
+impl Rest<'_> {
+    // The numbers that a message of this kind has; the others are 0.
+    fn figures(&self, kind: Kind) -> Result<[u64; 3], Mistake>
+        ensures value { result ≡ figures_at kind self.now.place (words self.now.line.now) }
+        ensures within { IfOk result (λ f. Fitting (kind-fields kind) f) }
+    {
+        let fields = kind.fields();
+        let mut figures = [0; 3];
+        for (i, field) in fields.iter().enumerate() {
+            figures[i] = figure(self.line, *field, self.place + i)?;
         }
-        None => Err(refuse(Expected::Number(field), place)),
+        Ok(figures)
     }
-}
 
-fn figure_if(line: &[u8], field: Option<Field>, place: usize) -> Result<u64, Mistake>
-    ensures value { result ≡ figure_if field place (words line.now) }
-    ensures within { IfOk result (λ n. Within field n) }
-{
-    match field {
-        Some(field) => figure(line, field, place),
-        None => Ok(0),
+    fn said(&self, kind: Kind) -> Result<Speech, Mistake>
+        ensures { result ≡ said_at kind self.now.place (words self.now.line.now) }
+    {
+        let figures = self.figures(kind)?;
+        end(self.line, self.place + kind.fields().len())?;
+        message(kind, figures).map(Speech::Say).ok_or(Mistake {
+            expected: Expected::Number(Field::Fault),
+            place: self.place,
+        })
     }
-}
 
-// The numbers that a message of this kind has.
-fn figures(line: &[u8], kind: Kind, place: usize) -> Result<Figures, Mistake>
-    requires { place ≤ 3 }
-    ensures value { result ≡ figures_at kind place (words line.now) }
-    ensures within { IfOk result (λ f. Fitting (kind-fields kind) f) }
-{
-    let fields = kind.fields();
-    let first = figure_if(line, fields.first, place)?;
-    let second = figure_if(line, fields.second, place + 1)?;
-    let third = figure_if(line, fields.third, place + 2)?;
-    Ok(Figures {
-        first,
-        second,
-        third,
-    })
-}
+    fn ticks(&self) -> Result<Speech, Mistake>
+        ensures { result ≡ ticks_at self.now.place (words self.now.line.now) }
+    {
+        if word_at(self.line, self.place).is_none() {
+            return Ok(Speech::Ticks(1));
+        }
+        let times = figure(self.line, Field::Times, self.place)?;
+        end(self.line, self.place + 1)?;
+        Ok(Speech::Ticks(times))
+    }
 
-fn said(line: &[u8], kind: Kind, place: usize) -> Result<Speech, Mistake>
-    requires { place ≤ 3 }
-    ensures { result ≡ said_at kind place (words line.now) }
-{
-    let figures = figures(line, kind, place)?;
-    let end = place + kind.count();
-    if !is_absent(line, end) {
-        return Err(refuse(Expected::Nothing, end));
+    fn raw(&self) -> Result<Speech, Mistake>
+        ensures { result ≡ raw_at self.now.place (words self.now.line.now) }
+    {
+        let place = self.place;
+        let word = word_at(self.line, place).unwrap_or(&[]);
+        if word.len() > MOST_DIGITS {
+            let expected = Expected::FewerBytes;
+            return Err(Mistake { expected, place });
+        }
+        if !is_hex(word) {
+            let expected = Expected::Bytes;
+            return Err(Mistake { expected, place });
+        }
+        end(self.line, place + 1)?;
+        let size = (word.len() / 2) as u8;
+        Ok(Speech::Raw { place, size })
     }
-    match message(kind, figures) {
-        Some(message) => Ok(Speech::Say(message)),
-        None => Err(refuse(Expected::Number(Field::Fault), place)),
-    }
-}
 
-fn ticks(line: &[u8], place: usize) -> Result<Speech, Mistake>
-    requires { place ≤ 3 }
-    ensures { result ≡ ticks_at place (words line.now) }
-{
-    if is_absent(line, place) {
-        return Ok(Speech::Ticks(1));
-    }
-    let times = figure(line, Field::Times, place)?;
-    if !is_absent(line, place + 1) {
-        return Err(refuse(Expected::Nothing, place + 1));
-    }
-    Ok(Speech::Ticks(times))
-}
-
-fn raw(line: &[u8], place: usize) -> Result<Speech, Mistake>
-    requires { place ≤ 3 }
-    ensures { result ≡ raw_at place (words line.now) }
-{
-    let word = word_at(line, place);
-    if word.len() > MOST_DIGITS {
-        return Err(refuse(Expected::FewerBytes, place));
-    }
-    if !is_hex(word) {
-        return Err(refuse(Expected::Bytes, place));
-    }
-    if !is_absent(line, place + 1) {
-        return Err(refuse(Expected::Nothing, place + 1));
-    }
-    let size = (word.len() / 2) as u8;
-    Ok(Speech::Raw { place, size })
-}
-
-// What the words from a place on say, by the verb before them.
-pub fn behind_verb(line: &[u8], verb: Verb, place: usize) -> Result<Speech, Mistake>
-    requires { place ≤ 3 }
-    ensures { result ≡ speech_of verb place (words line.now) }
-{
-    match verb {
-        Verb::Tick => ticks(line, place),
-        Verb::Bytes => raw(line, place),
-        Verb::Say(kind) => said(line, kind, place),
+    // What the words say, by the verb before them.
+    pub fn behind(&self, verb: Verb) -> Result<Speech, Mistake>
+        ensures { result ≡ speech_of verb self.now.place (words self.now.line.now) }
+    {
+        match verb {
+            Verb::Tick => self.ticks(),
+            Verb::Bytes => self.raw(),
+            Verb::Say(kind) => self.said(kind),
+        }
     }
 }

@@ -1,54 +1,29 @@
-ghost use Rattle.std.specs.Prelude.{◌≡◌, ◌++◌, OnOk};
-ghost use Rattle.text.specs.Told.{body_words, figure_words, lead_text, line_text, raw_words, said_words, spaced, tick_words, trailed};
+ghost use Rattle.std.specs.Prelude.{◌≡◌, [], ◌∷◌, ◌++◌, decimal, OnOk};
+ghost use Rattle.text.specs.Told.{body_words, lead_text, line_text, raw_words, said_words, spaced, tick_words, trailed};
 
 use crate::decimal::write_decimal;
-use crate::field::Field;
-use crate::form::Form;
+use crate::form::{Addressee, Form};
 use crate::hex::write_hex;
 use crate::sentence::{Sentence, Spoken};
 use std::alloc::AllocError;
 
-fn write_lead(form: Form, who: u8, out: &mut Vec<u8>) -> Result<(), AllocError>
-    ensures { OnOk result (out.new.items ≡ out.old.items ++ lead_text form who) }
+// A number and the space before it.
+fn write_figure(n: u64, out: &mut Vec<u8>) -> Result<(), AllocError>
+    ensures { OnOk result (out.new.items ≡ out.old.items ++ trailed (decimal n ∷ [])) }
 {
-    match form {
-        Form::Stream => Ok(()),
-        Form::Script => {
-            if who == 0 {
-                out.extend_from_slice(b"house ")?;
-                return Ok(());
-            }
-            out.extend_from_slice(b"box ")?;
-            write_decimal(u64::from(who), out)?;
-            out.push(b' ')?;
-            Ok(())
-        }
-    }
-}
-
-// A number and the space before it, if the field is there.
-fn write_figure(field: Option<Field>, n: u64, out: &mut Vec<u8>) -> Result<(), AllocError>
-    ensures { OnOk result (out.new.items ≡ out.old.items ++ trailed (figure_words field n)) }
-{
-    match field {
-        None => Ok(()),
-        Some(_) => {
-            out.push(b' ')?;
-            write_decimal(n, out)?;
-            Ok(())
-        }
-    }
+    out.push(b' ')?;
+    write_decimal(n, out)
 }
 
 fn write_said(sentence: Sentence, out: &mut Vec<u8>) -> Result<(), AllocError>
     ensures { OnOk result (out.new.items ≡ out.old.items ++ spaced (said_words sentence)) }
 {
-    let fields = sentence.kind.fields();
-    let figures = sentence.figures;
-    out.extend_from_slice(sentence.kind.name())?;
-    write_figure(fields.first, figures.first, out)?;
-    write_figure(fields.second, figures.second, out)?;
-    write_figure(fields.third, figures.third, out)?;
+    let Sentence { kind, figures } = sentence;
+    let figures = &figures[..kind.fields().len()];
+    out.extend_from_slice(kind.name())?;
+    for figure in figures {
+        write_figure(*figure, out)?;
+    }
     Ok(())
 }
 
@@ -59,8 +34,7 @@ fn write_ticks(times: u64, out: &mut Vec<u8>) -> Result<(), AllocError>
     if times == 1 {
         return Ok(());
     }
-    write_figure(Some(Field::Times), times, out)?;
-    Ok(())
+    write_figure(times, out)
 }
 
 fn write_raw(message: &[u8], out: &mut Vec<u8>) -> Result<(), AllocError>
@@ -71,8 +45,7 @@ fn write_raw(message: &[u8], out: &mut Vec<u8>) -> Result<(), AllocError>
         return Ok(());
     }
     out.push(b' ')?;
-    write_hex(message, out)?;
-    Ok(())
+    write_hex(message, out)
 }
 
 fn write_body(spoken: Spoken, message: &[u8], out: &mut Vec<u8>) -> Result<(), AllocError>
@@ -85,28 +58,44 @@ fn write_body(spoken: Spoken, message: &[u8], out: &mut Vec<u8>) -> Result<(), A
     }
 }
 
-// The line of one entry.
-pub fn write_entry(
-    form: Form,
-    who: u8,
-    spoken: Spoken,
-    message: &[u8],
-    out: &mut Vec<u8>,
-) -> Result<(), AllocError>
-    ensures { OnOk result (out.new.items ≡ out.old.items ++ line_text form who (body_words spoken message.now)) }
-{
-    write_lead(form, who, out)?;
-    write_body(spoken, message, out)?;
-    out.push(b'\n')?;
-    Ok(())
-}
+impl Addressee {
+    fn write_lead(self, out: &mut Vec<u8>) -> Result<(), AllocError>
+        ensures { OnOk result (out.new.items ≡ out.old.items ++ lead_text self.form self.who) }
+    {
+        match (self.form, self.who) {
+            (Form::Stream, _) => Ok(()),
+            (Form::Script, 0) => out.extend_from_slice(b"house "),
+            (Form::Script, who) => {
+                out.extend_from_slice(b"box ")?;
+                write_decimal(u64::from(who), out)?;
+                out.push(b' ')?;
+                Ok(())
+            }
+        }
+    }
 
-// The line of so many ticks of one party.
-pub fn write_tick_line(form: Form, who: u8, times: u64, out: &mut Vec<u8>) -> Result<(), AllocError>
-    ensures { OnOk result (out.new.items ≡ out.old.items ++ line_text form who (tick_words times)) }
-{
-    write_lead(form, who, out)?;
-    write_ticks(times, out)?;
-    out.push(b'\n')?;
-    Ok(())
+    // The line of one entry.
+    pub fn write_entry(
+        self,
+        spoken: Spoken,
+        message: &[u8],
+        out: &mut Vec<u8>,
+    ) -> Result<(), AllocError>
+        ensures { OnOk result (out.new.items ≡ out.old.items ++ line_text self.form self.who (body_words spoken message.now)) }
+    {
+        self.write_lead(out)?;
+        write_body(spoken, message, out)?;
+        out.push(b'\n')?;
+        Ok(())
+    }
+
+    // The line of so many ticks.
+    pub fn write_tick_line(self, times: u64, out: &mut Vec<u8>) -> Result<(), AllocError>
+        ensures { OnOk result (out.new.items ≡ out.old.items ++ line_text self.form self.who (tick_words times)) }
+    {
+        self.write_lead(out)?;
+        write_ticks(times, out)?;
+        out.push(b'\n')?;
+        Ok(())
+    }
 }

@@ -1,6 +1,4 @@
-ghost use Rattle.std.specs.Prelude.{◌<◌, IfOk};
-
-use anyhow::anyhow;
+use anyhow::{Result, anyhow};
 use std::alloc::{AllocError, Global};
 use text::Form;
 
@@ -12,11 +10,8 @@ pub enum Case {
 }
 
 impl Case {
-    pub fn of(heap: Global, line: &str) -> anyhow::Result<Case> {
-        let (word, rest) = match line.split_once(' ') {
-            Some(parts) => parts,
-            None => (line, ""),
-        };
+    pub fn of(heap: Global, line: &str) -> Result<Case> {
+        let (word, rest) = line.split_once(' ').unwrap_or((line, ""));
         match word {
             "script" => Ok(Case::Text(Form::Script, text_of(heap, rest)?)),
             "stream" => Ok(Case::Text(Form::Stream, text_of(heap, rest)?)),
@@ -29,46 +24,14 @@ impl Case {
 
 // A bar stands for the end of a line.
 fn text_of(heap: Global, text: &str) -> Result<Vec<u8>, AllocError> {
-    let mut bytes = Vec::new(heap);
-    for byte in text.bytes() {
-        if byte == b'|' {
-            bytes.push(b'\n')?;
-        } else {
-            bytes.push(byte)?;
-        }
-    }
-    Ok(bytes)
-}
-
-fn digit_of(byte: u8) -> anyhow::Result<u8>
-    ensures { IfOk result (λ d. d < 16) }
-{
-    match byte {
-        b'0'..=b'9' => Ok(byte - b'0'),
-        b'a'..=b'f' => Ok(byte - b'a' + 10),
-        _ => Err(anyhow!("no hexadecimal digit")),
-    }
+    text.bytes()
+        .map(|byte| if byte == b'|' { b'\n' } else { byte })
+        .collect(heap)
 }
 
 // Two digits to a byte; a space counts for nothing.
-fn bytes_of(heap: Global, text: &str) -> anyhow::Result<Vec<u8>> {
-    let mut bytes = Vec::new(heap);
-    let mut high = None;
-    for byte in text.bytes() {
-        if byte == b' ' {
-            continue;
-        }
-        let digit = digit_of(byte)?;
-        match high {
-            None => high = Some(digit),
-            Some(first) => {
-                bytes.push(first << 4 | digit)?;
-                high = None;
-            }
-        }
-    }
-    if high.is_some() {
-        return Err(anyhow!("half a byte"));
-    }
+fn bytes_of(heap: Global, text: &str) -> Result<Vec<u8>> {
+    let digits: Vec<u8> = text.bytes().filter(|byte| *byte != b' ').collect(heap)?;
+    let bytes = hex::decode(heap, digits.as_slice())?;
     Ok(bytes)
 }

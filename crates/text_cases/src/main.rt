@@ -3,6 +3,7 @@
 // Reads and writes a table of cases: what each text says in bytes and which text these have again, what each bytes say, and why one is refused.
 mod case;
 
+use anyhow::Result;
 use case::Case;
 use std::fs;
 use text::{Form, Report, read_text, write_text};
@@ -10,7 +11,7 @@ use text::{Form, Report, read_text, write_text};
 // More bytes than these are only counted.
 const SHOWN: usize = 64;
 
-fn show_bytes(rt: &HostRuntime, bytes: &[u8]) -> anyhow::Result<()> {
+fn show_bytes(rt: &HostRuntime, bytes: &[u8]) -> Result<()> {
     let count = bytes.len();
     if count > SHOWN {
         println!(rt; "  {count} bytes")?;
@@ -24,21 +25,21 @@ fn show_bytes(rt: &HostRuntime, bytes: &[u8]) -> anyhow::Result<()> {
     Ok(())
 }
 
-fn show_text(rt: &HostRuntime, text: &[u8]) -> anyhow::Result<()> {
+fn show_text(rt: &HostRuntime, text: &[u8]) -> Result<()> {
     print!(rt; "  ")?;
     for byte in text {
-        if *byte == b'\n' {
-            print!(rt; "|")?;
+        let shown = if *byte == b'\n' {
+            '|'
         } else {
-            let shown = char::from(*byte);
-            print!(rt; "{shown}")?;
-        }
+            char::from(*byte)
+        };
+        print!(rt; "{shown}")?;
     }
     println!(rt; "")?;
     Ok(())
 }
 
-fn to_text(rt: &HostRuntime, form: Form, bytes: &[u8]) -> anyhow::Result<()> {
+fn to_text(rt: &HostRuntime, form: Form, bytes: &[u8]) -> Result<()> {
     match write_text(rt.alloc(), form, bytes) {
         Ok(text) => show_text(rt, text.as_slice()),
         Err(fault) => {
@@ -48,7 +49,7 @@ fn to_text(rt: &HostRuntime, form: Form, bytes: &[u8]) -> anyhow::Result<()> {
     }
 }
 
-fn to_bytes(rt: &HostRuntime, form: Form, text: &[u8]) -> anyhow::Result<()> {
+fn to_bytes(rt: &HostRuntime, form: Form, text: &[u8]) -> Result<()> {
     match read_text(rt.alloc(), form, text) {
         Ok(bytes) => {
             show_bytes(rt, bytes.as_slice())?;
@@ -62,7 +63,7 @@ fn to_bytes(rt: &HostRuntime, form: Form, text: &[u8]) -> anyhow::Result<()> {
     }
 }
 
-fn play(rt: &HostRuntime, line: &str) -> anyhow::Result<()> {
+fn play(rt: &HostRuntime, line: &str) -> Result<()> {
     println!(rt; "{line}")?;
     match Case::of(rt.alloc(), line)? {
         Case::Text(form, text) => to_bytes(rt, form, text.as_slice()),
@@ -70,16 +71,14 @@ fn play(rt: &HostRuntime, line: &str) -> anyhow::Result<()> {
     }
 }
 
-fn run(rt: &HostRuntime) -> anyhow::Result<()> {
+fn run(rt: &HostRuntime) -> Result<()> {
     let cases = fs::read_to_string(rt, "cases.txt")?;
-    for line in cases.as_str().lines() {
-        if !line.is_empty() {
-            play(rt, line)?;
-        }
+    for line in cases.as_str().lines().filter(|line| !line.is_empty()) {
+        play(rt, line)?;
     }
     Ok(())
 }
 
-fn main(rt: HostRuntime) -> anyhow::Result<()> {
+fn main(rt: HostRuntime) -> Result<()> {
     run(&rt)
 }

@@ -1,5 +1,5 @@
 -- Who takes which message.
-use Rattle.std.proofs.Common.{◌≡◌, ℕ, ◌<◌, ◌≤◌, Bool, true, false, cond, ltb, leb, Some, None, Ok, Err, Option, refl, ap, ◌∙◌, subst, arith}
+use Rattle.std.proofs.Common.{◌≡◌, ℕ, ◌<◌, ◌≤◌, Bool, true, false, cond, ltb, leb, Some, None, Ok, Err, Option, refl, ap, ◌∙◌, subst}
 use Rattle.std.proofs.lemmas.Bool.{cond_both, cond-true, le-leb, leb-true, lt-ltb, ltb-true}
 use Rattle.lease.specs.declared.fault.Fault as lease
 use Rattle.lease.specs.declared.fault.Fault.TheVariants.{Malformed, BadAddress, BadSettings}
@@ -17,7 +17,7 @@ unchanged : (a b : Message) → ◌≡◌ {A = Answer} (Ok a) (Ok b) → a ≡ b
 unchanged a b e = cc
 
 pub refusal : (f : lease.Fault) (b : Message) → ◌≡◌ {A = Answer} (Err f) (Ok b) → ⊥
-refusal f b e = let z : ◌≡◌ {A = ℕ} 0 1 = cc in omega arith
+refusal f b e = cc
 
 tested : (t : Bool) (f : lease.Fault) (a b : Message) → ◌≡◌ {A = Answer} (cond t (Ok a) (Err f)) (Ok b) → (t ≡ true) × (a ≡ b)
 tested true f a b e = (refl, unchanged a b e)
@@ -62,7 +62,7 @@ to_address (Some n) admits P a says h = cond-true (admits n) (Ok a) (Err BadAddr
 
 to_settings : (n : Option ℕ) (good : Bool) (a : Message) → n ≡ None → good ≡ true → given n good a ≡ Ok a
 to_settings None good a e t = cond-true good (Ok a) (Err BadSettings) t
-to_settings (Some n) good a e t = absurd (let z : ◌≡◌ {A = ℕ} 0 1 = cc in omega arith)
+to_settings (Some n) good a e t = absurd (cc)
 
 to_receiver : (n : Option ℕ) (a : Message) → Sound n a → received n a ≡ Ok a
 to_receiver n (Request r) h =

@@ -1,5 +1,5 @@
 -- Messages and their bytes.
-use Rattle.std.proofs.Common.{◌≡◌, ℕ, zero, suc, ◌<◌, eqb, List, ◌∷◌, ◌++◌, length, take, Some, None, Option, sym, refl, ap, ◌∙◌, ap₂, arith, length-append}
+use Rattle.std.proofs.Common.{◌≡◌, ℕ, zero, suc, ◌<◌, ◌≤◌, eqb, List, ◌∷◌, ◌++◌, length, take, Some, None, Option, sym, refl, ap, ◌∙◌, ap₂, arith, length-append}
 use Rattle.std.proofs.lemmas.List.{length-take-le}
 use Rattle.std.proofs.lemmas.Bool.{cond-false, ne_eqb}
 use Rattle.std.specs.Option.{option_map}
@@ -15,11 +15,12 @@ use Rattle.wire.specs.Kind.{table, kind_of}
 use Rattle.wire.specs.Laws.{Fits, Unmistakable}
 use Rattle.wire.specs.Message.{kind, fields, encoded}
 use Rattle.wire.specs.Numbers.{be2, bytes2, bytes4, bytes8}
-use Rattle.wire.specs.Read.{read, read_as, fields_at, fault_of}
+use Rattle.wire.specs.Stream.{framed}
+use Rattle.wire.specs.Read.{read, read_as, fields_at}
 use Rattle.wire.proofs.Digits.{back2, back4, back8}
 use Rattle.wire.proofs.Judgement.{to_judgement}
 
-fault_back : (f : lease.Fault) → fault_of (fault.number f) ≡ Some f
+fault_back : (f : lease.Fault) → fault.fault_of (fault.number f) ≡ Some f
 fault_back Malformed = refl
 fault_back BadAddress = refl
 fault_back OtherClient = refl
@@ -63,7 +64,7 @@ kind_back k.InUse = refl
 kind_back k.NoAddress = refl
 kind_back k.Fault = refl
 
-sized : (m : Message) → length (encoded m) ≡ (table (kind m)).size
+pub sized : (m : Message) → length (encoded m) ≡ (table (kind m)).size
 unfolding bytes2 bytes4 bytes8
 sized (Request r) = refl
 sized (Grant g) = refl
@@ -76,6 +77,22 @@ sized (Nonce nonce) = refl
 sized (InUse address until) = refl
 sized NoAddress = refl
 sized (Fault f) = refl
+
+longest_kind : (k : Kind) → (table k).size ≤ 15
+longest_kind k.Request = omega arith
+longest_kind k.Grant = omega arith
+longest_kind k.Settings = omega arith
+longest_kind k.Tick = omega arith
+longest_kind k.Crash = omega arith
+longest_kind k.Restart = omega arith
+longest_kind k.OwnNumber = omega arith
+longest_kind k.Nonce = omega arith
+longest_kind k.InUse = omega arith
+longest_kind k.NoAddress = omega arith
+longest_kind k.Fault = omega arith
+
+pub longest : (m : Message) → length (framed (encoded m)) ≤ 16
+longest m = omega (arith, sized m, longest_kind (kind m))
 
 -- a kind's number before a body of another length than the kind's
 misfit : (x : Kind) (bs : List ℕ) → (suc (length bs) ≡ (table x).size → ⊥) → read ((table x).number ∷ bs) ≡ None

@@ -1,5 +1,5 @@
 -- Why a byte string is refused.
-use Rattle.std.proofs.Common.{◌≡◌, ℕ, ◌<◌, ◌≤◌, Bool, true, false, cond, ltb, leb, ◌⊎◌, List, Some, None, Ok, Err, Option, sym, refl, ap, ◌∙◌, subst, inl, inr, arith}
+use Rattle.std.proofs.Common.{◌≡◌, ℕ, ◌<◌, ◌≤◌, Bool, true, false, cond, ltb, leb, ◌⊎◌, List, Some, None, Ok, Err, Option, sym, refl, ap, ◌∙◌, subst, inl, inr, MatchResult}
 use Rattle.std.proofs.lemmas.Bool.{cond_both, leb-false, ltb-false, both_ways}
 use Rattle.lease.specs.declared.fault.Fault as lease
 use Rattle.lease.specs.declared.fault.Fault.TheVariants.{Malformed, BadAddress, BadSettings}
@@ -9,20 +9,21 @@ use Rattle.wire.specs.declared.message.Message.TheVariants.{Request, Grant, Sett
 use Rattle.wire.specs.declared.reader.Reader.{Reader}
 use Rattle.wire.specs.declared.reader.Reader.TheVariants.{Server, Client, Tool}
 use Rattle.wire.specs.Decode.{Answer, addressed, answered, decoded, given, judged, judged_by, received}
+use Rattle.wire.specs.Laws.{Taken}
 use Rattle.wire.specs.Meant.{Known}
 use Rattle.wire.specs.Message.{kind, encoded}
 use Rattle.wire.specs.Read.{read}
 use Rattle.wire.specs.Reader.{takes}
 use Rattle.wire.specs.Refused.{Outside, Own, Party, Refused, Unsettled}
 use Rattle.wire.proofs.Digits.{Bytes}
-use Rattle.wire.proofs.Exactness.{own_bytes}
+use Rattle.wire.proofs.Exactness.{exact, own_bytes}
 use Rattle.wire.proofs.Readings.{read-encoded, same_some}
 
 same_fault : (f g : lease.Fault) → ◌≡◌ {A = Answer} (Err f) (Err g) → f ≡ g
 same_fault f g e = cc
 
 taken : (a : Message) (g : lease.Fault) → ◌≡◌ {A = Answer} (Ok a) (Err g) → ⊥
-taken a g e = let z : ◌≡◌ {A = ℕ} 0 1 = cc in omega arith
+taken a g e = cc
 
 failed : (t : Bool) (f : lease.Fault) (a : Message) (g : lease.Fault) → ◌≡◌ {A = Answer} (cond t (Ok a) (Err f)) (Err g) → (t ≡ false) × (f ≡ g)
 failed true f a g e = absurd (taken a g e)
@@ -38,7 +39,7 @@ by_address (Some n) admits P a g says e = let (t, same) = failed (admits n) BadA
 
 by_settings : (n : Option ℕ) (good : Bool) (a : Message) (g : lease.Fault) → given n good a ≡ Err g → (n ≡ None → good ≡ false) × (BadSettings ≡ g)
 by_settings None good a g e = let (t, same) = failed good BadSettings a g e in (λ _. t, same)
-by_settings (Some n) good a g e = (λ none. absurd (let z : ◌≡◌ {A = ℕ} 0 1 = cc in omega arith), same_fault BadSettings g e)
+by_settings (Some n) good a g e = (λ none. absurd (cc), same_fault BadSettings g e)
 
 by_receiver : (n : Option ℕ) (a : Message) (g : lease.Fault) → received n a ≡ Err g → Ways n a g
 by_receiver n (Request r) g e =
@@ -70,8 +71,13 @@ by_judgement reader n bs a g r is e =
 
 by_answer : (reader : Reader) (n : Option ℕ) (bs : List ℕ) (o : Option Message) (g : lease.Fault) → Bytes bs → read bs ≡ o → answered reader n o ≡ Err g → Refused reader n bs g
 by_answer reader n bs None g b r e =
-    subst (Refused reader n bs) (same_fault Malformed g e) (λ m fits own. let none : Some m ≡ None = sym (read-encoded m fits) ∙ (sym (ap read own.is) ∙ r) in let z : ◌≡◌ {A = ℕ} 0 1 = cc in omega arith)
+    subst (Refused reader n bs) (same_fault Malformed g e) (λ m fits own. let none : Some m ≡ None = sym (read-encoded m fits) ∙ (sym (ap read own.is) ∙ r) in cc)
 by_answer reader n bs (Some a) g b r e = by_judgement reader n bs a g r (own_bytes bs b a r) e
 
-pub refusals : (reader : Reader) (n : Option ℕ) (bs : List ℕ) → Bytes bs → (g : lease.Fault) → decoded reader n bs ≡ Err g → Refused reader n bs g
+refusals : (reader : Reader) (n : Option ℕ) (bs : List ℕ) → Bytes bs → (g : lease.Fault) → decoded reader n bs ≡ Err g → Refused reader n bs g
 refusals reader n bs b g e = by_answer reader n bs (read bs) g b refl e
+
+-- an answer says what the bytes are, or why they are refused
+pub law : (reader : Reader) (n : Option ℕ) (bs : List ℕ) → Bytes bs → (a : Answer) → a ≡ decoded reader n bs → MatchResult a (λ m. Taken reader n bs m) (λ f. Refused reader n bs f)
+law reader n bs b (Ok m) e = exact reader n bs b m (sym e)
+law reader n bs b (Err f) e = refusals reader n bs b f (sym e)

@@ -1,6 +1,7 @@
 -- The table of messages: for each kind its number, which is a message's first byte, how many bytes the message has, and who reads it.
 -- Assumes nothing.
-use Rattle.std.specs.Prelude.{ℕ, Bool, true, false, cond, List, [], ◌∷◌, Some, None, Option, ◌==◌}
+use Rattle.std.specs.Prelude.{ℕ, Bool, true, false, List, [], ◌∷◌, Option, ◌==◌}
+use Rattle.std.specs.List.{find}
 use Rattle.wire.specs.declared.kind.Kind.{Kind}
 use Rattle.wire.specs.declared.kind.Kind.TheVariants.{Request, Grant, Settings, Tick, Crash, Restart, OwnNumber, Nonce, InUse, NoAddress, Fault}
 
@@ -31,10 +32,6 @@ table Fault = row 18 2 false false true
 abbrev pub kinds : List Kind
 kinds = Request ∷ Grant ∷ Settings ∷ Tick ∷ Crash ∷ Restart ∷ OwnNumber ∷ Nonce ∷ InUse ∷ NoAddress ∷ Fault ∷ []
 
-abbrev pub numbered : ℕ → List Kind → Option Kind
-numbered n [] = None
-numbered n (k ∷ ks) = cond (n == (table k).number) (Some k) (numbered n ks)
-
 -- the kind that has a number, if any has
 abbrev pub kind_of : ℕ → Option Kind
-kind_of n = numbered n kinds
+kind_of n = find (λ k. n == (table k).number) kinds

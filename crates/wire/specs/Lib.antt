@@ -1,5 +1,4 @@
 pub mod Decode
-pub mod Frame
 pub mod Kind
 pub mod Laws
 pub mod Meant

@@ -1,27 +1,14 @@
 -- The message that a byte string is, whoever reads it: the first byte says the kind, the kind says the length, and each field begins at its place.
 -- Assumes nothing: a byte string of another kind or length, or with a fault that no number stands for, is no message.
-use Rattle.std.specs.Prelude.{ℕ, cond, List, [], ◌∷◌, length, Some, None, Option, ◌==◌, slice_index}
+use Rattle.std.specs.Prelude.{cond, List, ℕ, length, Some, None, Option, ◌==◌, slice_index}
 use Rattle.std.specs.Option.{option_map}
-use Rattle.lease.specs.declared.fault.Fault as lease
-use Rattle.lease.specs.declared.fault.Fault.TheVariants.{Malformed, BadAddress, OtherClient, NotWaiting, TooLate, NoneFree, BadSettings, TableLost, CountExhausted}
-use Rattle.lease.specs.Fault as fault
+use Rattle.lease.specs.Fault.{fault_of}
 use Rattle.wire.specs.declared.kind.Kind.{Kind}
 use Rattle.wire.specs.declared.kind.Kind.TheVariants.{Request, Grant, Settings, Tick, Crash, Restart, OwnNumber, Nonce, InUse, NoAddress, Fault}
 use Rattle.wire.specs.declared.message.Message.{Message}
 use Rattle.wire.specs.declared.message.Message.TheVariants as m
 use Rattle.wire.specs.Kind.{table, kind_of}
 use Rattle.wire.specs.Numbers.{be2, be4, be8}
-
-abbrev pub faults : List lease.Fault
-faults = Malformed ∷ BadAddress ∷ OtherClient ∷ NotWaiting ∷ TooLate ∷ NoneFree ∷ BadSettings ∷ TableLost ∷ CountExhausted ∷ []
-
-abbrev pub numbered : ℕ → List lease.Fault → Option lease.Fault
-numbered n [] = None
-numbered n (f ∷ fs) = cond (n == fault.number f) (Some f) (numbered n fs)
-
--- the fault that a number stands for, if it does for any
-abbrev pub fault_of : ℕ → Option lease.Fault
-fault_of n = numbered n faults
 
 abbrev pub fields_at : Kind → List ℕ → Option Message
 fields_at Request bs = Some (m.Request (record { client = be4 bs 1; nonce = be8 bs 5; preferred = be2 bs 13 }))

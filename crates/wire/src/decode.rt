@@ -3,73 +3,52 @@ ghost use Rattle.wire.specs.Decode.{decoded, judged, pool, received as receives}
 ghost use Rattle.wire.specs.Laws.{Taken};
 ghost use Rattle.wire.specs.Kind.{kind_of, table};
 ghost use Rattle.wire.specs.Refused.{Refused};
-ghost use Rattle.wire.specs.Read.{fault_of, fields_at, read_as};
+ghost use Rattle.wire.specs.Read.{fields_at, read_as};
 
 use crate::kind::Kind;
 use crate::message::Message;
-use crate::numbers::{u16_at, u32_at, u64_at};
+use crate::numbers::array_at;
 use crate::reader::Reader;
 use lease::{Fault, Grant, Request, Settings};
 
-// The fault that this number stands for.
-pub fn fault_numbered(number: u8) -> Option<Fault>
-    ensures { result ≡ fault_of number }
-{
-    for fault in [
-        Fault::Malformed,
-        Fault::BadAddress,
-        Fault::OtherClient,
-        Fault::NotWaiting,
-        Fault::TooLate,
-        Fault::NoneFree,
-        Fault::BadSettings,
-        Fault::TableLost,
-        Fault::CountExhausted,
-    ] {
-        if fault.number() == number {
-            return Some(fault);
-        }
-    }
-    None
-}
-
+// Each field stands at the protocol's own number, as in the table of specs/Read.
 fn fields(kind: Kind, bytes: &[u8]) -> Option<Message>
     requires { length bytes.now ≡ (table kind).size }
     ensures { result ≡ fields_at kind bytes.now }
 {
     let message = match kind {
         Kind::Request => Message::Request(Request {
-            client: u32_at(bytes, 1),
-            nonce: u64_at(bytes, 5),
-            preferred: u16_at(bytes, 13),
+            client: u32::from_be_bytes(array_at(bytes, 1)),
+            nonce: u64::from_be_bytes(array_at(bytes, 5)),
+            preferred: u16::from_be_bytes(array_at(bytes, 13)),
         }),
         Kind::Grant => Message::Grant(Grant {
-            client: u32_at(bytes, 1),
-            nonce: u64_at(bytes, 5),
-            address: u16_at(bytes, 13),
+            client: u32::from_be_bytes(array_at(bytes, 1)),
+            nonce: u64::from_be_bytes(array_at(bytes, 5)),
+            address: u16::from_be_bytes(array_at(bytes, 13)),
         }),
         Kind::Settings => Message::Settings {
-            addresses: u16_at(bytes, 1),
-            term: u32_at(bytes, 3),
-            skew: u16_at(bytes, 7),
+            addresses: u16::from_be_bytes(array_at(bytes, 1)),
+            term: u32::from_be_bytes(array_at(bytes, 3)),
+            skew: u16::from_be_bytes(array_at(bytes, 7)),
         },
         Kind::Tick => Message::Tick,
         Kind::Crash => Message::Crash,
         Kind::Restart => Message::Restart {
-            clock: u64_at(bytes, 1),
+            clock: u64::from_be_bytes(array_at(bytes, 1)),
         },
         Kind::OwnNumber => Message::OwnNumber {
-            client: u32_at(bytes, 1),
+            client: u32::from_be_bytes(array_at(bytes, 1)),
         },
         Kind::Nonce => Message::Nonce {
-            nonce: u64_at(bytes, 1),
+            nonce: u64::from_be_bytes(array_at(bytes, 1)),
         },
         Kind::InUse => Message::InUse {
-            address: u16_at(bytes, 1),
-            until: u64_at(bytes, 3),
+            address: u16::from_be_bytes(array_at(bytes, 1)),
+            until: u64::from_be_bytes(array_at(bytes, 3)),
         },
         Kind::NoAddress => Message::NoAddress,
-        Kind::Fault => Message::Fault(fault_numbered(bytes[1])?),
+        Kind::Fault => Message::Fault(Fault::try_from(bytes[1]).ok()?),
     };
     Some(message)
 }
@@ -78,12 +57,7 @@ fn fields(kind: Kind, bytes: &[u8]) -> Option<Message>
 pub fn read(bytes: &[u8]) -> Option<Message>
     ensures { result ≡ read_as (kind_of (slice_index bytes.now 0)) bytes.now }
 {
-    if bytes.is_empty() {
-        return None;
-    }
-    let Some(kind) = Kind::numbered(bytes[0]) else {
-        return None;
-    };
+    let kind = Kind::try_from(*bytes.first()?).ok()?;
     if bytes.len() != usize::from(kind.size()) {
         return None;
     }
@@ -96,17 +70,13 @@ fn received(settings: Option<Settings>, message: Message) -> Result<Message, Fau
 {
     match message {
         Message::Request(request) => {
-            let Some(known) = settings else {
-                return Err(Fault::BadSettings);
-            };
+            let known = settings.ok_or(Fault::BadSettings)?;
             if request.preferred > known.addresses() {
                 return Err(Fault::BadAddress);
             }
         }
         Message::Grant(grant) => {
-            let Some(known) = settings else {
-                return Err(Fault::BadSettings);
-            };
+            let known = settings.ok_or(Fault::BadSettings)?;
             if grant.address >= known.addresses() {
                 return Err(Fault::BadAddress);
             }
@@ -141,6 +111,7 @@ fn judge(reader: Reader, settings: Option<Settings>, message: Message) -> Result
 
 impl Message {
     // What these bytes say to a reader that knows these settings: a message, or the first fault met in reading them.
+    #[tactic(auto, unfolding(crate::specs::Read::read))]
     pub fn decode(
         reader: Reader,
         settings: Option<Settings>,
@@ -149,6 +120,7 @@ impl Message {
         ensures value { result ≡ decoded reader (pool settings) bytes.now }
         ensures law { MatchResult result (λ m. Taken reader (pool settings) bytes.now m) (λ f. Refused reader (pool settings) bytes.now f) }
     {
+        // taken apart by let .. else, one of the named forms (docs/DECISIONS.md)
         let Some(message) = read(bytes) else {
             return Err(Fault::Malformed);
         };

@@ -3,15 +3,14 @@
 // Messages in bytes: what a message's bytes say to the one who reads them, and which bytes say a message.
 mod decode;
 mod encode;
-mod frame;
 mod kind;
 mod message;
 mod numbers;
 mod reader;
 mod stream;
 
-pub use decode::{fault_numbered, read};
-pub use frame::most_bytes;
+pub use decode::read;
+pub use encode::most_bytes;
 pub use lease::Fault;
 pub use message::Message;
 pub use reader::Reader;

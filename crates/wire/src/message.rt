@@ -1,4 +1,5 @@
 ghost use Rattle.std.specs.Prelude.{◌≡◌};
+ghost use Rattle.wire.specs.Laws.{Fits};
 ghost use Rattle.wire.specs.Message.{kind as kinded};
 
 use crate::kind::Kind;
@@ -37,8 +38,10 @@ pub enum Message {
 }
 
 impl Message {
+    // What it is about; its fields fit their widths, as their types say.
     pub(crate) fn kind(self) -> Kind
-        ensures { result ≡ kinded self }
+        ensures kind { result ≡ kinded self }
+        ensures widths { Fits self }
     {
         match self {
             Message::Request(_) => Kind::Request,

@@ -4,7 +4,7 @@ ghost use Rattle.wire.specs.Reader.{takes as taken};
 use crate::kind::Kind;
 
 // Who reads a message. A tool reads what the programs put out.
-#[derive(Clone, Copy)]
+#[derive(Clone, Copy, Debug, PartialEq, Eq)]
 pub enum Reader {
     Server,
     Client,
@@ -15,14 +15,25 @@ impl Reader {
     pub(crate) fn takes(self, kind: Kind) -> bool
         ensures { result ≡ taken self kind }
     {
-        match kind {
-            Kind::Request => matches!(self, Reader::Server | Reader::Tool),
-            Kind::Grant => matches!(self, Reader::Client | Reader::Tool),
-            Kind::Settings | Kind::Tick | Kind::Crash | Kind::Restart => {
-                matches!(self, Reader::Server | Reader::Client)
-            }
-            Kind::OwnNumber | Kind::Nonce => matches!(self, Reader::Client),
-            Kind::InUse | Kind::NoAddress | Kind::Fault => matches!(self, Reader::Tool),
+        match self {
+            Reader::Server => matches!(
+                kind,
+                Kind::Request | Kind::Settings | Kind::Tick | Kind::Crash | Kind::Restart
+            ),
+            Reader::Client => matches!(
+                kind,
+                Kind::Grant
+                    | Kind::Settings
+                    | Kind::Tick
+                    | Kind::Crash
+                    | Kind::Restart
+                    | Kind::OwnNumber
+                    | Kind::Nonce
+            ),
+            Reader::Tool => matches!(
+                kind,
+                Kind::Request | Kind::Grant | Kind::InUse | Kind::NoAddress | Kind::Fault
+            ),
         }
     }
 }

@@ -1,6 +1,7 @@
-ghost use Rattle.wire.specs.Stream.{Delivered, Reads, Splits};
+ghost use Rattle.wire.specs.Stream.{Delivered, Reads};
 
 // What a stream of messages, each with its length before it, begins with.
+// It is no `Result` of an `Option` of a pair: the two parts would lose their names, and a cut is no error where more of the stream is to come.
 #[derive(Clone, Copy)]
 pub enum Next<'a> {
     // a message's bytes, and the stream after them
@@ -10,24 +11,17 @@ pub enum Next<'a> {
     Cut,
 }
 
-fn first(stream: &[u8]) -> Next<'_>
-    ensures { Splits stream.now result }
-{
-    let Some((size, after)) = stream.split_first() else {
-        return Next::End;
-    };
-    let size = usize::from(*size);
-    if after.len() < size {
-        return Next::Cut;
-    }
-    let (bytes, rest) = after.split_at(size);
-    Next::Message { bytes, rest }
-}
-
 // The next message of a stream, whatever it holds.
+#[tactic(auto, using(crate::proofs::Streams::delivered))]
 pub fn next_message(stream: &[u8]) -> Next<'_>
     ensures reads { Reads stream.now result }
     ensures delivered { Delivered }
 {
-    first(stream)
+    let Some((size, after)) = stream.split_first() else {
+        return Next::End;
+    };
+    let Some((bytes, rest)) = after.split_at_checked(usize::from(*size)) else {
+        return Next::Cut;
+    };
+    Next::Message { bytes, rest }
 }

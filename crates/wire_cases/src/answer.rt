@@ -9,51 +9,45 @@ pub struct Answer(pub Result<Message, Fault>);
 impl fmt::Display for Answer {
     fn fmt<W: fmt::Write>(&self, f: &mut fmt::Formatter<W>) -> fmt::Result {
         match self.0 {
-            Ok(message) => show(message, f),
-            Err(fault) => {
-                let number = fault.number();
-                write!(f, "refused {number}")
-            }
-        }
-    }
-}
-
-fn show<W: fmt::Write>(message: Message, f: &mut fmt::Formatter<W>) -> fmt::Result {
-    match message {
-        Message::Request(request) => {
-            let Request {
-                client,
-                nonce,
-                preferred,
-            } = request;
-            write!(
+            Err(fault) => write!(f, "refused {}", fault.number()),
+            Ok(
+                Message::Request(
+                    Request {
+                        client,
+                        nonce,
+                        preferred,
+                    },
+                ),
+            ) => write!(
                 f,
                 "request client {client} nonce {nonce} preferred {preferred}"
-            )
-        }
-        Message::Grant(grant) => {
-            let Grant {
-                client,
-                nonce,
-                address,
-            } = grant;
-            write!(f, "grant client {client} nonce {nonce} address {address}")
-        }
-        Message::Settings {
-            addresses,
-            term,
-            skew,
-        } => write!(f, "settings addresses {addresses} term {term} skew {skew}"),
-        Message::Tick => write!(f, "tick"),
-        Message::Crash => write!(f, "crash"),
-        Message::Restart { clock } => write!(f, "restart clock {clock}"),
-        Message::OwnNumber { client } => write!(f, "own number {client}"),
-        Message::Nonce { nonce } => write!(f, "nonce {nonce}"),
-        Message::InUse { address, until } => write!(f, "in use address {address} until {until}"),
-        Message::NoAddress => write!(f, "no address"),
-        Message::Fault(fault) => {
-            let number = fault.number();
-            write!(f, "fault {number}")
+            ),
+            Ok(
+                Message::Grant(
+                    Grant {
+                        client,
+                        nonce,
+                        address,
+                    },
+                ),
+            ) => write!(f, "grant client {client} nonce {nonce} address {address}"),
+            Ok(
+                Message::Settings {
+                    addresses,
+                    term,
+                    skew,
+                },
+            ) => write!(f, "settings addresses {addresses} term {term} skew {skew}"),
+            Ok(Message::Tick) => write!(f, "tick"),
+            Ok(Message::Crash) => write!(f, "crash"),
+            Ok(Message::Restart { clock }) => write!(f, "restart clock {clock}"),
+            Ok(Message::OwnNumber { client }) => write!(f, "own number {client}"),
+            Ok(Message::Nonce { nonce }) => write!(f, "nonce {nonce}"),
+            Ok(Message::InUse { address, until }) => {
+                write!(f, "in use address {address} until {until}")
+            }
+            Ok(Message::NoAddress) => write!(f, "no address"),
+            Ok(Message::Fault(fault)) => write!(f, "fault {}", fault.number()),
         }
     }
 }

@@ -1,94 +1,62 @@
-ghost use Rattle.std.specs.Prelude.{◌<◌, IfOk};
-
-use anyhow::anyhow;
+use anyhow::{Context, anyhow};
 use lease::Settings;
 use std::alloc::Global;
+use std::str::FromStr;
 use wire::Reader;
 
-// A line of the table: who reads, or nobody for a stream that a server reads, what settings are known, and the bytes.
+// What the bytes of a line are: one message to this reader, or a stream of messages to a server.
+#[derive(Clone, Copy)]
+pub enum Form {
+    Message(Reader),
+    Stream,
+}
+
+impl FromStr for Form {
+    type Err = anyhow::Error;
+
+    fn from_str(word: &str) -> anyhow::Result<Form> {
+        match word {
+            "server" => Ok(Form::Message(Reader::Server)),
+            "client" => Ok(Form::Message(Reader::Client)),
+            "tool" => Ok(Form::Message(Reader::Tool)),
+            "stream" => Ok(Form::Stream),
+            _ => Err(anyhow!("no reader")),
+        }
+    }
+}
+
+// A line of the table: its form, what settings are known, and the bytes.
 #[derive(Drop)]
 pub struct Case {
-    pub reader: Option<Reader>,
+    pub form: Form,
     pub settings: Option<Settings>,
     pub bytes: Vec<u8>,
 }
 
 impl Case {
+    // Two digits to a byte, wherever spaces stand. It is no `FromStr`, to which no allocator is lent.
     pub fn of(heap: Global, line: &str) -> anyhow::Result<Case> {
-        let Some((reader, rest)) = line.split_once(' ') else {
-            return Err(anyhow!("a case has a reader and settings"));
-        };
-        let (settings, bytes) = match rest.split_once(' ') {
-            Some(parts) => parts,
-            None => (rest, ""),
-        };
+        let (form, rest) = line
+            .split_once(' ')
+            .context("a case has a reader and settings")?;
+        let (settings, digits) = rest.split_once(' ').unwrap_or((rest, ""));
+        let digits: String = digits.split(' ').collect(heap)?;
         Ok(Case {
-            reader: reader_of(reader)?,
+            form: form.parse()?,
             settings: settings_of(settings)?,
-            bytes: bytes_of(heap, bytes)?,
+            bytes: hex::decode(heap, digits)?,
         })
     }
 }
 
-fn reader_of(word: &str) -> anyhow::Result<Option<Reader>> {
-    match word {
-        "server" => Ok(Some(Reader::Server)),
-        "client" => Ok(Some(Reader::Client)),
-        "tool" => Ok(Some(Reader::Tool)),
-        "stream" => Ok(None),
-        _ => Err(anyhow!("no reader")),
-    }
-}
-
+// Three numbers, or a dash where none are known.
 fn settings_of(text: &str) -> anyhow::Result<Option<Settings>> {
     if text == "-" {
         return Ok(None);
     }
-    let Some((addresses, rest)) = text.split_once(',') else {
-        return Err(anyhow!("settings have three numbers"));
-    };
-    let Some((term, skew)) = rest.split_once(',') else {
-        return Err(anyhow!("settings have three numbers"));
-    };
-    let Ok(settings) = Settings::new(
-        addresses.parse::<u16>()?,
-        term.parse::<u32>()?,
-        skew.parse::<u16>()?,
-    ) else {
-        return Err(anyhow!("settings out of range"));
-    };
-    Ok(Some(settings))
-}
-
-fn digit_of(byte: u8) -> anyhow::Result<u8>
-    ensures { IfOk result (λ d. d < 16) }
-{
-    match byte {
-        b'0'..=b'9' => Ok(byte - b'0'),
-        b'a'..=b'f' => Ok(byte - b'a' + 10),
-        _ => Err(anyhow!("no hexadecimal digit")),
-    }
-}
-
-// Two digits to a byte; a space counts for nothing.
-fn bytes_of(heap: Global, text: &str) -> anyhow::Result<Vec<u8>> {
-    let mut bytes = Vec::new(heap);
-    let mut high = None;
-    for byte in text.bytes() {
-        if byte == b' ' {
-            continue;
-        }
-        let digit = digit_of(byte)?;
-        match high {
-            None => high = Some(digit),
-            Some(first) => {
-                bytes.push(first << 4 | digit)?;
-                high = None;
-            }
-        }
-    }
-    if high.is_some() {
-        return Err(anyhow!("half a byte"));
-    }
-    Ok(bytes)
+    let (addresses, rest) = text.split_once(',').context("settings have three numbers")?;
+    let (term, skew) = rest.split_once(',').context("settings have three numbers")?;
+    Settings::new(addresses.parse()?, term.parse()?, skew.parse()?)
+        .map(Some)
+        .map_err(|_| anyhow!("settings out of range"))
 }

@@ -3,11 +3,11 @@
 // Scripts and streams between bytes and text: standard input to standard output.
 mod mode;
 
-use anyhow::anyhow;
-use mode::Mode;
+use anyhow::{Result, anyhow};
+use mode::{Mode, UnknownMode};
 use std::env;
 use std::io::{Read, Write};
-use text::{Report, read_text, write_text};
+use text::{Form, Report, read_text, write_text};
 
 const USAGE: &str = "usage: words MODE < INPUT > OUTPUT
 
@@ -32,21 +32,21 @@ lines, with # before a comment; box N in place of house, and neither in a stream
 ";
 
 // The whole of standard input.
-fn input(rt: &HostRuntime) -> anyhow::Result<Vec<u8>> {
+fn input(rt: &HostRuntime) -> Result<Vec<u8>> {
     let mut bytes = Vec::new(rt.alloc());
     rt.stdin().read_to_end(&mut bytes)?;
     Ok(bytes)
 }
 
-fn output(rt: &HostRuntime, bytes: &[u8]) -> anyhow::Result<()> {
+fn output(rt: &HostRuntime, bytes: &[u8]) -> Result<()> {
     let mut out = rt.stdout();
     out.write_all(bytes)?;
     out.flush()?;
     Ok(())
 }
 
-fn to_bytes(rt: &HostRuntime, mode: Mode, input: &[u8]) -> anyhow::Result<()> {
-    match read_text(rt.alloc(), mode.form, input) {
+fn to_bytes(rt: &HostRuntime, form: Form, input: &[u8]) -> Result<()> {
+    match read_text(rt.alloc(), form, input) {
         Ok(bytes) => output(rt, bytes.as_slice()),
         Err(fault) => {
             let report = Report { text: input, fault };
@@ -56,8 +56,8 @@ fn to_bytes(rt: &HostRuntime, mode: Mode, input: &[u8]) -> anyhow::Result<()> {
     }
 }
 
-fn to_text(rt: &HostRuntime, mode: Mode, input: &[u8]) -> anyhow::Result<()> {
-    match write_text(rt.alloc(), mode.form, input) {
+fn to_text(rt: &HostRuntime, form: Form, input: &[u8]) -> Result<()> {
+    match write_text(rt.alloc(), form, input) {
         Ok(text) => output(rt, text.as_slice()),
         Err(fault) => {
             eprintln!(rt; "{fault}")?;
@@ -66,10 +66,8 @@ fn to_text(rt: &HostRuntime, mode: Mode, input: &[u8]) -> anyhow::Result<()> {
     }
 }
 
-fn main(rt: HostRuntime) -> anyhow::Result<()> {
-    let mut args = env::args(&rt)?;
-    let _program = args.next();
-    let Some(word) = args.next() else {
+fn main(rt: HostRuntime) -> Result<()> {
+    let Some(word) = env::args(&rt)?.nth(1) else {
         eprint!(rt; "{USAGE}")?;
         return Err(anyhow!("no mode"));
     };
@@ -77,13 +75,13 @@ fn main(rt: HostRuntime) -> anyhow::Result<()> {
         print!(rt; "{USAGE}")?;
         return Ok(());
     }
-    let Some(mode) = Mode::named(word.as_str()) else {
+    let Ok(mode) = word.as_str().parse::<Mode>() else {
         eprint!(rt; "{USAGE}")?;
-        return Err(anyhow!("no such mode"));
+        return Err(UnknownMode.into());
     };
     let bytes = input(&rt)?;
-    match mode.way {
-        mode::Way::ToBytes => to_bytes(&rt, mode, bytes.as_slice()),
-        mode::Way::ToText => to_text(&rt, mode, bytes.as_slice()),
+    match mode {
+        Mode::ToBytes(form) => to_bytes(&rt, form, bytes.as_slice()),
+        Mode::ToText(form) => to_text(&rt, form, bytes.as_slice()),
     }
 }

@@ -1,26 +1,37 @@
+use std::error::Error;
+use std::fmt;
+use std::str::FromStr;
 use text::Form;
 
-#[derive(Clone, Copy)]
-pub enum Way {
-    ToBytes,
-    ToText,
+// What is made of the input.
+#[derive(Clone, Copy, Debug, PartialEq, Eq)]
+pub enum Mode {
+    ToBytes(Form),
+    ToText(Form),
 }
 
-#[derive(Clone, Copy)]
-pub struct Mode {
-    pub way: Way,
-    pub form: Form,
-}
+// A word that names no mode.
+#[derive(Clone, Copy, Debug, PartialEq, Eq)]
+pub struct UnknownMode;
 
-impl Mode {
-    pub fn named(word: &str) -> Option<Mode> {
-        let (way, form) = match word {
-            "script" => (Way::ToBytes, Form::Script),
-            "stream" => (Way::ToBytes, Form::Stream),
-            "read-script" => (Way::ToText, Form::Script),
-            "read-stream" => (Way::ToText, Form::Stream),
-            _ => return None,
-        };
-        Some(Mode { way, form })
+impl FromStr for Mode {
+    type Err = UnknownMode;
+
+    fn from_str(word: &str) -> Result<Mode, UnknownMode> {
+        match word {
+            "script" => Ok(Mode::ToBytes(Form::Script)),
+            "stream" => Ok(Mode::ToBytes(Form::Stream)),
+            "read-script" => Ok(Mode::ToText(Form::Script)),
+            "read-stream" => Ok(Mode::ToText(Form::Stream)),
+            _ => Err(UnknownMode),
+        }
     }
 }
+
+impl fmt::Display for UnknownMode {
+    fn fmt<W: fmt::Write>(&self, f: &mut fmt::Formatter<W>) -> fmt::Result {
+        f.write_str("no such mode")
+    }
+}
+
+impl Error for UnknownMode {}

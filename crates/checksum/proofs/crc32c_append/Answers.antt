@@ -1,29 +1,19 @@
-use Rattle.std.proofs.Common.{◌≡◌, ℕ, ◌≤◌, List, length, get_or, take, sym, refl, ap, ◌∙◌, arith}
+use Rattle.std.proofs.Common.{rules, ◌≡◌, ℕ, refl, ap, ◌∙◌}
 use lib.Bits.{bit_xor}
-use Rattle.std.proofs.lemmas.List.{take_more, take_all}
-use Rattle.checksum.specs.Crc.{all_ones, run, step, continued}
-use Rattle.checksum.proofs.Crc.{run-push, crc_append}
+use Rattle.std.proofs.lemmas.Fn.{fold_over, slice_gives, fronts}
+use Rattle.checksum.specs.Crc.{all_ones, run, continued}
+use Rattle.checksum.proofs.Crc.{run-more, crc_append}
 use Rattle.checksum.proofs.crc32c_append.Goals as goal
 
-pub loop-byte-init : goal.loop-byte-init
+folded : (c : goal.After-fold-state) → c.fold-state.result ≡ run (bit_xor c.args.sum all_ones) c.args.bytes.now
 unfolding run
-loop-byte-init c = refl
-
-pub loop-byte-preserved : goal.loop-byte-preserved
-loop-byte-preserved c =
-    let bs : List ℕ = c.args.bytes.now in
-    let i : ℕ = c.loop-byte.byte-index in
-    let start : ℕ = bit_xor c.args.sum all_ones in
-    c.step-state.ensures
-    ∙ ap (λ (n : ℕ). step n (get_or bs i 0)) c.loop-byte.invariant
-    ∙ sym (run-push start (take i bs) (get_or bs i 0))
-    ∙ ap (run start) (sym (take_more bs i 0 c.loop-byte-test.true))
+folded c =
+    fold_over fronts (λ y. y.now) _ (λ bs s. s ≡ run (bit_xor c.args.sum all_ones) bs) _ (λ bs s x t f' e k. let more = run-more (bit_xor c.args.sum all_ones) bs x.now s t e in search (rules, more)) _ _ _ _ (slice_gives c.iter.result) refl
+    c.fold-state.ensures.ran
+    ∙ ap (run (bit_xor c.args.sum all_ones)) c.iter.ensures.rest
 
 pub returns : goal.returns
 unfolding continued
 returns c =
-    let bs : List ℕ = c.args.bytes.now in
-    let start : ℕ = bit_xor c.args.sum all_ones in
-    let end : length bs ≤ c.loop-byte.byte-index = omega arith in
-    let whole : bit_xor c.loop-byte.state all_ones ≡ continued c.args.sum bs = ap (λ (n : ℕ). bit_xor n all_ones) (c.loop-byte.invariant ∙ ap (run start) (take_all c.loop-byte.byte-index bs end)) in
-    record { value = whole; joins = λ before e. whole ∙ ap (λ (n : ℕ). continued n bs) e ∙ crc_append before bs }
+    let whole : bit_xor c.fold-state.result all_ones ≡ continued c.args.sum c.args.bytes.now = ap (λ (n : ℕ). bit_xor n all_ones) (folded c) in
+    record { value = whole; joins = λ before e. whole ∙ ap (λ (n : ℕ). continued n c.args.bytes.now) e ∙ crc_append before c.args.bytes.now }

@@ -1,9 +1,8 @@
-use Rattle.std.proofs.Common.{sym, arith}
-use Rattle.journal.proofs.Scans.{zeros-all, zeros_not}
+use Rattle.std.proofs.Common.{rules, tests, eqb, ◌∙◌}
+use Rattle.std.proofs.lemmas.Iterator.{YieldsList-from_slice}
+use Rattle.std.proofs.lemmas.Iterator.Search.{all_from_yields_List}
+use Rattle.journal.proofs.Scans.{zeros_list}
 use Rattle.journal.proofs.scan.is_zero.Goals as goal
 
-pub returns-then-byte-ne0 : goal.returns-then-byte-ne0
-returns-then-byte-ne0 c = sym (zeros_not c.args.place.now c.loop-byte.byte-index c.loop-byte-test.true c.if-byte-ne0.true)
-
 pub returns : goal.returns
-returns c = sym (zeros-all c.args.place.now (λ k l. c.loop-byte.invariant k (omega arith)))
+returns c = all_from_yields_List (λ b. eqb b 0) _ _ _ c.all.ensures.ran (YieldsList-from_slice c.args.place.now (cc)) (λ x b q k. search (rules, tests)) ∙ zeros_list c.args.place.now

@@ -1,6 +1,5 @@
-use Rattle.std.proofs.Common.{◌+◌, Bool, [], get_or, Option, refl, ap₂}
-use Rattle.journal.specs.declared.record.Record.{Record}
-use Rattle.journal.specs.Bytes.{place_from, place_of}
+use Rattle.std.proofs.Common.{[], get_or, refl}
+use Rattle.journal.specs.Bytes.{place_of}
 use Rattle.journal.specs.Image.{scanned}
 use Rattle.journal.proofs.Scans.{scanned-more}
 use Rattle.journal.proofs.scan.scan_row.Goals as goal
@@ -11,7 +10,5 @@ loop-k-init c = refl
 
 pub loop-k-preserved : goal.loop-k-preserved
 loop-k-preserved c =
-    scanned-more (λ k. place_of (get_or c.args.device.now (c.args.from + k) [])) c.loop-k.k c.loop-k.scan c.noted-scan.result (place_from c.decode.result c.is_zero.result)
-    c.loop-k.invariant
-    (ap₂ (λ (o : Option Record) (z : Bool). place_from o z) c.decode.ensures.value c.is_zero.ensures)
-    c.noted-scan.ensures
+    scanned-more (λ k. place_of (get_or c.args.row.now k [])) c.loop-k.k c.loop-k.scan c.noted-scan.result (place_of (get_or c.args.row.now c.loop-k.k []))
+    c.loop-k.invariant refl c.noted-scan.ensures

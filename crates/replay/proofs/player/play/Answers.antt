@@ -1,55 +1,25 @@
-use Rattle.std.proofs.Common.{ℕ, List, ◌++◌, map, vec_items, sym, refl, ap, ◌∙◌, subst, inl, inr}
-use Rattle.script.specs.declared.entry.Entry.{Entry}
-use Rattle.script.specs.declared.entry.Unread.{Unread}
-use Rattle.script.specs.declared.entry.Unread.TheVariants.{Fault, NoMemory}
-use Rattle.script.specs.Script.{Failed, part_of}
-use Rattle.system.specs.declared.line.Line.{Line}
-use Rattle.system.specs.Report.{Play, played}
+use Rattle.std.proofs.Common.{◌≡◌, List, ◌++◌, vec_items, MatchResult, subst, rules}
 use Rattle.system.proofs.Promise.{names_no_two}
-use Rattle.replay.specs.declared.player.Stopped.{Stopped}
+use Rattle.script.specs.declared.entry.Entry.{Entry}
+use Rattle.system.specs.Report.{played}
 use Rattle.replay.specs.Of.{play_of}
-use Rattle.replay.specs.Played.{Unplayed, events_in, stopped_by}
-use Rattle.replay.proofs.Plays.{within_all}
+use Rattle.replay.specs.Played.{Begun, events_in}
+use Rattle.replay.proofs.Plays.{ended_is}
 use Rattle.replay.proofs.player.play.Goals as goal
 
-unread_unplayed : (bytes : List ℕ) (old : List Line) (u : Unread) → Failed bytes u → Unplayed bytes old old (stopped_by u)
-unread_unplayed bytes old (Fault n) f = (f, refl)
-unread_unplayed bytes old NoMemory f = inl refl
+pub returns-in_err-read-clause-promise : goal.returns-in_err-read-clause-promise
+returns-in_err-read-clause-promise c = names_no_two
 
-pub returns-in-Err : goal.returns-in-Err
-returns-in-Err c = record {
-  ended = subst (λ (s : Stopped). Unplayed c.args.script.now (vec_items c.args.report.now) (vec_items c.args.report.now) s) (sym c.why.ensures)
-      (unread_unplayed c.args.script.now (vec_items c.args.report.now) c.in-Err.unread c.in-Err.ensures.reads);
-  promise = names_no_two;
-}
+pub returns-in_err-simulation-clause-promise : goal.returns-in_err-simulation-clause-promise
+returns-in_err-simulation-clause-promise c = names_no_two
 
-pub returns-in_default-new : goal.returns-in_default-new
-returns-in_default-new c = record { ended = inl refl; promise = names_no_two }
+pub returns-clause-ended : goal.returns-clause-ended
+returns-clause-ended c =
+    let h = play_of c.in_ok-simulation.simulation in
+    let old = vec_items c.args.report.now in
+    let new = vec_items c.play_all.new.report in
+    let Ran : List Entry → Type 0 = λ es. MatchResult c.play_all.result (λ _. new ≡ old ++ played (events_in es) h) (λ _. Begun (played (events_in es) h) old new) in
+    ended_is c.args.script.now (vec_items c.read.new.entries) old new h c.play_all.result c.map_err.result c.in_ok-read.ensures.reads c.in_ok-simulation.ensures (subst Ran c.deref.ensures.value c.play_all.ensures) (search rules)
 
-pub returns-in-Ok-play_all : goal.returns-in-Ok-play_all
-returns-in-Ok-play_all c = record {
-  ended = record {
-    parts = map (part_of c.args.script.now) (vec_items c.read.new.entries);
-    reads = c.in_default.ensures.reads;
-    appends = c.in-Ok-play_all.ensures
-        ∙ ap (λ (l : List Entry). vec_items c.args.report.now ++ played (events_in c.args.script.now l) (play_of c.in-Ok.simulation)) c.deref.ensures.value
-        ∙ ap (λ (h : Play). vec_items c.args.report.now ++ played (events_in c.args.script.now (vec_items c.read.new.entries)) h) c.in-Ok.ensures;
-    promise = λ k. names_no_two (events_in c.args.script.now (vec_items c.read.new.entries)) (within_all (map (part_of c.args.script.now) (vec_items c.read.new.entries)) c.in_default.ensures.reads.known) k;
-  };
-  promise = names_no_two;
-}
-
-pub returns : goal.returns
-returns c = record {
-  ended = inr (record {
-    parts = map (part_of c.args.script.now) (vec_items c.read.new.entries);
-    reads = c.in_default.ensures.reads;
-    begins = record {
-      rest = c.in-Err-play_all.ensures.rest;
-      joins = c.in-Err-play_all.ensures.joins
-          ∙ ap (λ (l : List Entry). vec_items c.args.report.now ++ played (events_in c.args.script.now l) (play_of c.in-Ok.simulation)) c.deref.ensures.value
-          ∙ ap (λ (h : Play). vec_items c.args.report.now ++ played (events_in c.args.script.now (vec_items c.read.new.entries)) h) c.in-Ok.ensures;
-    };
-  });
-  promise = names_no_two;
-}
+pub returns-clause-promise : goal.returns-clause-promise
+returns-clause-promise c = names_no_two

@@ -1,12 +1,11 @@
-use Rattle.std.proofs.Common.{length, arith}
-use Rattle.replay.proofs.Passes.{exhausts-none, exhausts_down, exhausts-whole}
+use Rattle.std.proofs.Common.{◌∙◌, rules, tests}
+use Rattle.std.proofs.lemmas.Iterator.{YieldsList-from_slice}
+use Rattle.std.proofs.lemmas.Iterator.Search.{any_from_yields_List}
+use Rattle.system.specs.Watch.{exhausted_by, fault_in}
+use Rattle.replay.proofs.Passes.{exhausts_listed}
 use Rattle.replay.proofs.run.exhausts.Goals as goal
 
-pub loop-i-init : goal.loop-i-init
-loop-i-init c = exhausts-none c.args.said.now (length c.args.said.now) (omega arith)
-
-pub loop-i-preserved : goal.loop-i-preserved
-loop-i-preserved c = exhausts_down c.args.said.now c.loop-i.i _ c.is_exhausted-found.result c.loop-i.found (omega arith) (omega arith) c.is_exhausted-found.ensures c.loop-i.invariant
-
 pub returns : goal.returns
-returns c = exhausts-whole c.args.said.now c.loop-i.i c.loop-i.found c.loop-i-test.false c.loop-i.invariant
+returns c =
+    any_from_yields_List (λ m. exhausted_by (fault_in m)) _ _ c.any.result c.any.ensures.ran (YieldsList-from_slice c.args.said.now cc) (λ x b q k. search (rules, tests))
+    ∙ exhausts_listed c.args.said.now

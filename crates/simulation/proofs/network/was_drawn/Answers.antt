@@ -1,14 +1,12 @@
-use Rattle.std.proofs.Common.{List, sym, ap, ◌∙◌}
-use Rattle.std.proofs.lemmas.List.{take_all}
-use Rattle.simulation.specs.declared.event.Sent.{Sent}
-use Rattle.simulation.proofs.Parties.{drawn_in, drawn-none, drawn-turn}
+use Rattle.std.proofs.Common.{rules, ◌∙◌}
+use borrow.Author.Tests.{tests}
+use Rattle.std.proofs.lemmas.Iterator.{YieldsList-from_slice}
+use Rattle.std.proofs.lemmas.Iterator.Search.{any_from_yields_List}
+use Rattle.simulation.specs.Play.{message_of, draws_it}
+use Rattle.simulation.proofs.Parties.{drawn_any}
 use Rattle.simulation.proofs.network.was_drawn.Goals as goal
 
-pub loop-m-init : goal.loop-m-init
-loop-m-init c = sym (drawn-none c.args.nonce)
-
-pub loop-m-preserved : goal.loop-m-preserved
-loop-m-preserved c = drawn-turn c.args.nonce c.args.sent.now c.loop-m.m-index _ c.draws-drawn.result c.loop-m.drawn c.loop-m-test.true c.draws-drawn.ensures c.loop-m.invariant
-
 pub returns : goal.returns
-returns c = c.loop-m.invariant ∙ ap (λ (l : List Sent). drawn_in c.args.nonce l) (take_all c.loop-m.m-index c.args.sent.now c.loop-m-test.false)
+returns c =
+    any_from_yields_List (λ m. draws_it c.args.nonce (message_of m)) _ _ _ c.any.ensures.ran (YieldsList-from_slice c.args.sent.now cc) (λ x b q k. search (rules, tests))
+    ∙ drawn_any c.args.nonce c.args.sent.now

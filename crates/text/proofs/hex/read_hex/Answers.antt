@@ -1,9 +1,11 @@
-use Rattle.std.proofs.Common.{◌∙◌}
-use Rattle.text.proofs.Appending.{moved}
-use Rattle.text.proofs.Pairs.{meant-on}
+use Rattle.std.proofs.Common.{ℕ, List, ◌++◌, map, vec_items, sym, ap, ◌∙◌}
+use Rattle.std.proofs.lemmas.List.{append-nil, at_drop_all}
+use Rattle.text.proofs.Pairs.{both, meant_chunks}
 use Rattle.text.proofs.hex.read_hex.Goals as goal
 
-pub loop-high-preserved : goal.loop-high-preserved
-loop-high-preserved c =
-    moved _ _ _ _ _ c.in_ok-push.ensures.items (meant-on _ _ _ _ _ _ _ c.in-Some.ensures.cases.0 c.in-Some-split_first.ensures.cases.0 c.value_of.ensures.value c.value_of-in-Some.ensures.value)
-    ∙ c.loop-high.invariant
+pub returns : goal.returns
+returns c =
+    sym (append-nil (vec_items c.loop-high.out))
+    ∙ (ap (λ (l : List ℕ). vec_items c.loop-high.out ++ l) (sym (at_drop_all (map both) c.as_chunks.result.0.now c.loop-high.high-index c.loop-high-test.false))
+    ∙ (c.loop-high.invariant
+    ∙ ap (λ (l : List ℕ). vec_items c.args.out.now ++ l) (ap (map both) c.as_chunks.ensures.front ∙ sym (meant_chunks c.args.word.now))))

@@ -1,10 +1,10 @@
-use Rattle.std.proofs.Common.{◌≡◌, ◌+◌, ◌≤◌, [], length, Ok, vec_items}
-use Rattle.text.specs.Pieces.{lines}
-use Rattle.text.specs.Read.{reading, read_text}
+use Rattle.std.proofs.Common.{◌≡◌, [], drop, length, Ok, vec_items}
+use Rattle.text.specs.Pieces.{newline}
+use Rattle.text.specs.Read.{reading}
+use Rattle.text.proofs.Cutting.{cut}
 use Rattle.text.proofs.reading.read_text.Given as goal
 
-abbrev pub invariant-loop-rest : goal.invariant-loop-rest
-invariant-loop-rest l = (reading l.form l.number (vec_items l.out) (Ok []) (lines l.rest) ≡ read_text l.form l.text) × (l.number + length l.rest ≤ length l.text)
-
-abbrev pub decreases-loop-rest : goal.decreases-loop-rest
-decreases-loop-rest l = length l.rest
+abbrev pub invariant-loop-i : goal.invariant-loop-i
+invariant-loop-i l =
+    (goal.iterator-loop-i).can_next l.i-iterator × (goal.iterator-loop-i).is_finite l.i-iterator
+    × (reading l.form (length l.yielded) (vec_items l.out) (Ok []) (drop (length l.yielded) (cut newline l.text)) ≡ reading l.form 0 [] (Ok []) (cut newline l.text))

@@ -1,33 +1,33 @@
-use Rattle.std.proofs.Common.{◌≡◌, ℕ, ◌+◌, ◌*◌, ◌<◌, ◌≤◌, List, [], length, get_or, None, vec_items, refl, ap, ◌∙◌, subst, arith}
-use Rattle.journal.specs.declared.open.Reading.{Reading}
-use Rattle.journal.specs.Bytes.{place_of}
-use Rattle.journal.specs.Row.{table_of}
+use Rattle.std.proofs.Common.{◌≡◌, ℕ, ◌+◌, ◌<◌, ◌≤◌, List, length, get_or, None, vec_items, sym, ap, ◌∙◌, subst, arith}
+use Rattle.std.specs.List.{between}
 use Rattle.journal.specs.Device.{leases}
-use Rattle.journal.specs.Image.{Recovered, count_of, cursor_from, device_of, unread}
-use Rattle.journal.proofs.Restores.{count-few, restored, rereads}
+use Rattle.journal.specs.Image.{Recovered, cursor_from, device_of}
+use Rattle.journal.proofs.Restores.{within_row, restored, rereads}
 use Rattle.journal.proofs.journal.Journal.recover.Goals as goal
 
-pub restore-requires : goal.restore-requires
-restore-requires c =
-    let few : count_of c.read-reading.result.found (get_or c.read-reading.result.rows c.read-reading.result.active unread).count ≤ 4096 = count-few _ _ _ _ _ c.read-reading.ensures in
-    let w : c.read-reading.result.active < 2 = c.read-reading.ensures.within in
-    omega (arith, c.count.ensures, c.deref-2.ensures.len)
+read : (c : goal.After-count) → Recovered (device_of (vec_items c.args.self.now.device)) c.read-self.result
+read c = subst (λ (v : List (List ℕ)). Recovered (device_of v) c.read-self.result) c.deref.ensures.value c.read-self.ensures
 
-pub returns : goal.returns
-returns c =
+within : (c : goal.After-count) → c.place-start.result + c.count.result ≤ 8192
+within c = within_row _ _ c.place-start.result c.count.result (read c) c.place-start.ensures.value c.count.ensures
+
+pub overflow_add-start : goal.overflow_add-start
+overflow_add-start c = let w : c.place-start.result + c.count.result ≤ 8192 = within c in omega arith
+
+pub slice_bounds-restore-end : goal.slice_bounds-restore-end
+slice_bounds-restore-end c = let w : c.place-start.result + c.count.result ≤ 8192 = within c in omega (arith, c.deref-2.ensures.len, c.args.self.now.sized)
+
+table : (c : goal.After-result-1) (a : ℕ) → a < length c.restore.new.table → get_or c.restore.new.table a None ≡ leases 4096 (device_of (vec_items c.args.self.now.device)) a
+table c a l =
     let bs : List (List ℕ) = vec_items c.args.self.now.device in
-    let r : Reading = c.read-reading.result in
-    let w : Recovered (device_of bs) r.rows r.active r.highest r.found =
-    subst (λ (v : List (List ℕ)). Recovered (device_of v) r.rows r.active r.highest r.found) c.deref.ensures.value c.read-reading.ensures in
-    let t : (a : ℕ) → a < length c.restore.new.table → get_or c.restore.new.table a None ≡ leases 4096 (device_of bs) a =
-    λ a l. c.restore.ensures a l
-    ∙ ap (λ (v : List (List ℕ)). table_of (λ k. place_of (get_or v (r.active * 4096 + k) [])) c.count.result a) c.deref-2.ensures.value
-    ∙ ap (λ (n : ℕ). table_of (λ k. place_of (get_or bs (r.active * 4096 + k) [])) n a) c.count.ensures
-    ∙ restored bs r.rows r.active r.highest r.found w a in
-    record {
-      device = refl;
-      journal = w;
-      found = refl;
-      table = t;
-      ready = rereads (device_of bs) (cursor_from r.rows r.active r.highest) c.restore.new.table w.cursor t;
-    }
+    c.restore.ensures a l
+    ∙ restored bs _ c.read-self.result c.place-start.result c.count.result (subst (λ (v : List (List ℕ)). Recovered (device_of v) c.read-self.result) c.deref.ensures.value c.read-self.ensures) c.place-start.ensures.value c.count.ensures
+    (ap (λ (v : List (List ℕ)). between c.place-start.result (c.place-start.result + c.count.result) v) c.deref-2.ensures.value) (sym c.args.self.now.device.ok.0 ∙ c.args.self.now.sized) a
+
+pub returns-clause-table : goal.returns-clause-table
+returns-clause-table c = table c
+
+pub returns-clause-ready : goal.returns-clause-ready
+returns-clause-ready c =
+    let r : Recovered (device_of (vec_items c.args.self.now.device)) c.read-self.result = subst (λ (v : List (List ℕ)). Recovered (device_of v) c.read-self.result) c.deref.ensures.value c.read-self.ensures in
+    rereads (device_of (vec_items c.args.self.now.device)) (cursor_from c.read-self.result) c.restore.new.table r.cursor (table c)

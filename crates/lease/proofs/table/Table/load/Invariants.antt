@@ -1,7 +1,6 @@
-use Rattle.std.proofs.Common.{◌≡◌, ℕ, ◌<◌, vec_items}
-use Rattle.lease.specs.Table.{table_of, loaded}
+use Rattle.std.proofs.Common.{◌≡◌, ℕ, ◌<◌}
+use Rattle.lease.specs.Table.{at_home, table_of}
 use Rattle.lease.proofs.table.Table.load.Given as goal
 
-abbrev pub invariant-loop-a : goal.invariant-loop-a
-invariant-loop-a l =
-    ((k : ℕ) → k < l.a → table_of (vec_items l.self.leases) k ≡ loaded l.initial.self.addresses l.places k) × (l.self.addresses ≡ l.initial.self.addresses)
+abbrev pub invariant-loop-address : goal.invariant-loop-address
+invariant-loop-address l = (k : ℕ) → k < l.address → table_of l.place-items k ≡ at_home k (table_of l.places k)

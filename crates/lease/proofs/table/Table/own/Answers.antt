@@ -1,24 +1,17 @@
-use Rattle.std.proofs.Common.{◌≡◌, ℕ, Bool, true, false, vec_items, sym, ◌∙◌}
-use Rattle.lease.specs.Table.{table_of, owned}
-use Rattle.lease.proofs.Places.{lowest_start, lowest-here, lowest-next, lowest_end}
+use Rattle.std.proofs.Common.{◌≡◌, Bool, List, Option, ap, ◌∙◌, rules}
+use Rattle.std.specs.List.{position}
+use Rattle.std.proofs.lemmas.Iterator.{YieldsList-from_slice}
+use Rattle.std.proofs.lemmas.Iterator.Search.{position_from_yields_List}
+use Rattle.lease.specs.declared.lease.Lease.{Lease}
+use Rattle.lease.specs.Table.{owned}
+use Rattle.lease.proofs.Places.{by_place}
 use Rattle.lease.proofs.table.Table.own.Goals as goal
-
-pub loop-a-init : goal.loop-a-init
-loop-a-init c = lowest_start (λ a. owned c.args.clock.ticks c.args.client (table_of (vec_items c.args.self.now.leases) a)) c.args.self.now.addresses
-
-pub loop-a-preserved : goal.loop-a-preserved
-loop-a-preserved c =
-    let test : ℕ → Bool = λ a. owned c.args.clock.ticks c.args.client (table_of (vec_items c.args.self.now.leases) a) in
-    let e : test c.loop-a.a ≡ false = cc c.if-is_own.ensures in
-    c.loop-a.invariant ∙ lowest-next test c.loop-a.a c.args.self.now.addresses c.loop-a-test.true e
-
-pub returns-then-is_own : goal.returns-then-is_own
-returns-then-is_own c =
-    let test : ℕ → Bool = λ a. owned c.args.clock.ticks c.args.client (table_of (vec_items c.args.self.now.leases) a) in
-    let e : test c.loop-a.a ≡ true = cc c.if-is_own.ensures in
-    sym (c.loop-a.invariant ∙ lowest-here test c.loop-a.a c.args.self.now.addresses c.loop-a-test.true e)
 
 pub returns : goal.returns
 returns c =
-    let test : ℕ → Bool = λ a. owned c.args.clock.ticks c.args.client (table_of (vec_items c.args.self.now.leases) a) in
-    sym (c.loop-a.invariant ∙ lowest_end test c.loop-a.a c.args.self.now.addresses c.loop-a-test.false)
+    let test : Option Lease → Bool = λ o. owned c.args.clock.ticks c.args.client o in
+    let found : c.position-found.result ≡ position test c.deref.result.now
+    = position_from_yields_List test _ _ c.position-found.result c.position-found.ensures.ran (YieldsList-from_slice _ c.iter-places.ensures.rest) (λ x b q k. search rules) in
+    let mapped : c.map.result ≡ c.position-found.result = search rules in
+    let places : c.deref.result.now ≡ c.args.self.now = search rules in
+    mapped ∙ found ∙ ap (λ (xs : List (Option Lease)). position test xs) places ∙ by_place test c.args.self.now

@@ -1,4 +1,4 @@
-use Rattle.std.proofs.Common.{◌≡◌, ◌-◌, None, vec_items}
+use Rattle.std.proofs.Common.{◌≡◌, ◌-◌, length, None}
 use Rattle.lease.specs.Table.{table_of, vacant}
 use Rattle.lease.specs.Choosing.{lowest}
 use Rattle.lease.proofs.table.Table.vacancy.Given as goal
@@ -7,5 +7,5 @@ use Rattle.lease.proofs.table.Table.vacancy.Given as goal
 abbrev pub invariant-addresses : goal.invariant-addresses
 invariant-addresses l =
     (l.found ≡ None)
-    × (lowest (λ a. vacant l.clock.ticks (table_of (vec_items l.self.leases) a)) 0 l.self.addresses
-    ≡ lowest (λ a. vacant l.clock.ticks (table_of (vec_items l.self.leases) a)) l.a (l.self.addresses - l.a))
+    × (lowest (λ a. vacant l.clock.ticks (table_of l.self a)) 0 (length l.self)
+    ≡ lowest (λ a. vacant l.clock.ticks (table_of l.self a)) l.address (length l.self - l.address))

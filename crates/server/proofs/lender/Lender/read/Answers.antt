@@ -4,15 +4,14 @@ use Rattle.lease.specs.declared.lease.Lease.{Lease}
 use Rattle.lease.specs.Stands.{KeeperLoaded}
 use Rattle.journal.specs.declared.state.Found.{Found}
 use Rattle.lease.specs.Of.{settings_of}
-use Rattle.server.specs.Steps.{Comes, missing}
-use Rattle.server.specs.Server.{reads, tells}
+use Rattle.server.specs.Steps.{missing}
+use Rattle.server.specs.Server.{tells}
 use Rattle.server.proofs.States.{state_by}
 use Rattle.server.proofs.Readings.{has_read}
 use Rattle.server.proofs.lender.Lender.read.Goals as goal
 
-comes : (c : goal.After-told) → Comes c.args.journal.now (state_by c.args.self.now.keeper c.args.journal.now)
-    (reads (settings_of c.args.self.now.keeper.settings) c.args.clock.ticks (state_by c.args.self.now.keeper c.args.journal.now)) c.told.result c.recover.new.self (state_by c.restart.new.self c.recover.new.self)
-comes c =
+pub returns : goal.returns
+returns c =
     let xs : List (Option Lease) = c.recover.new.table in
     let n : length xs ≡ c.args.self.now.places.len = omega (arith, c.deref_mut.ensures.len, c.args.self.now.places.ok.0) in
     let e : c.deref.result.now ≡ xs = c.deref.ensures.value ∙ with_items_is c.args.self.now.places xs n in
@@ -21,10 +20,3 @@ comes c =
     (c.told.ensures.file (Some (settings_of c.args.self.now.keeper.settings)) c.args.journal.now c.recover.new.self (state_by c.args.self.now.keeper c.args.journal.now) c.recover.ensures.device)
     (subst (λ (ys : List (Option Lease)). KeeperLoaded ys c.args.self.now.keeper c.load.new.self) e c.load.ensures)
     (c.read_as-found.ensures ∙ ap (λ (f : Found). missing f) c.recover.ensures.found) c.restart.ensures (c.told.ensures.effects ∙ ap (λ (o : Option ℕ). tells o) c.silent.ensures)
-
-pub returns : goal.returns
-returns c =
-    record {
-      comes = comes c;
-      file = λ o s. c.told.ensures.file o c.args.journal.now c.recover.new.self s c.recover.ensures.device;
-    }

@@ -1,0 +1,6 @@
+// What a server finds when it reads its lease table at a restart.
+#[derive(Clone, Copy, PartialEq, Eq, Debug)]
+pub enum Found {
+    Table,
+    Nothing,
+}

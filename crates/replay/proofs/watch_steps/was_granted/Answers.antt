@@ -1,9 +1,0 @@
-use Rattle.std.proofs.Common.{ap, ◌∙◌}
-use Rattle.seen.specs.declared.stamp.Stamp.{Stamp}
-use Rattle.seen.specs.Seen.{stamps_of}
-use Rattle.seen.specs.Stamp.{member}
-use Rattle.replay.proofs.Stamps.{grant-member}
-use Rattle.replay.proofs.watch_steps.was_granted.Goals as goal
-
-pub returns : goal.returns
-returns c = c.contains.ensures ∙ ap (λ (s : Stamp). member s (stamps_of c.args.grants.now)) c.of_grant.ensures ∙ grant-member c.args.grant (stamps_of c.args.grants.now)
