@@ -6,8 +6,9 @@ ghost use Rattle.box_.specs.Running.{ran_more};
 
 use client::Client;
 use std::alloc::Global;
+use std::io;
 use stream::{Hearer, Outbox, Speaker, Stop};
-use wire::Message;
+use wire::{Fault, Message};
 
 // A client, and what it puts out.
 #[derive(Drop)]
@@ -53,7 +54,11 @@ impl Hearer for Shell {
 }
 
 impl Speaker for Shell {
-    fn outbox(&mut self) -> &mut Outbox {
-        &mut self.out
+    fn tell_cut(&mut self) -> Result<(), Stop> {
+        self.out.put(Message::Fault(Fault::Malformed))
+    }
+
+    fn flush(&mut self) -> io::Result<()> {
+        self.out.flush()
     }
 }

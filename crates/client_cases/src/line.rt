@@ -1,4 +1,5 @@
-use std::alloc::Global;
+use anyhow::bail;
+use std::alloc::{AllocError, Global};
 
 // A message's bytes, and how often it is heard.
 #[derive(Drop)]
@@ -8,13 +9,30 @@ pub struct Line {
 }
 
 impl Line {
-    // Two digits to a byte, wherever spaces stand, and behind a star how often. It is no `FromStr`, to which no allocator is lent.
+    // A message's bytes, and behind a star how often. It is no `FromStr`, to which no allocator is lent.
     pub fn of(heap: Global, text: &str) -> anyhow::Result<Line> {
         let (digits, times) = text.split_once('*').unwrap_or((text, "1"));
-        let digits: String = digits.split(' ').collect(heap)?;
+        let times = times.trim().parse()?;
         Ok(Line {
-            bytes: hex::decode(heap, digits)?,
-            times: times.trim().parse()?,
+            bytes: bytes_of(heap, digits)?,
+            times,
         })
     }
+}
+
+// Two lower digits to a byte, wherever spaces stand. The crate hex takes upper digits too, and says otherwise what is wrong.
+fn bytes_of(heap: Global, text: &str) -> anyhow::Result<Vec<u8>> {
+    let digits: String = text.split(' ').collect(heap)?;
+    if !digits
+        .bytes()
+        .all(|byte| matches!(byte, b'0'..=b'9' | b'a'..=b'f'))
+    {
+        bail!("no hexadecimal digit");
+    }
+    if digits.len() % 2 == 1 {
+        bail!("half a byte");
+    }
+    // only memory can be wanting now
+    let bytes = hex::decode(heap, digits).map_err(|_| AllocError)?;
+    Ok(bytes)
 }

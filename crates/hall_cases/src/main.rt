@@ -5,6 +5,7 @@ use anyhow::anyhow;
 use printing::{Printer, is_two};
 use replay::{Stopped, play};
 use std::fs;
+use std::io::Write;
 use system::Line;
 use text::{Form, Report, read_text};
 
@@ -33,7 +34,7 @@ fn show_report(rt: &HostRuntime, name: &str, report: &[Line]) -> anyhow::Result<
     }
     let status = u8::from(report.iter().any(|line| is_two(*line)));
     println!(rt; "== {name}, status {status}")?;
-    print!(rt; "{}", printer.text()?)?;
+    rt.stdout().write_all(printer.text()?.as_bytes())?;
     Ok(())
 }
 

@@ -3,7 +3,7 @@
 // Plays a script from standard input, and prints what is reported of the run.
 use printing::{Printer, is_two};
 use replay::{Stopped, play};
-use std::io::Read;
+use std::io::{Read, Write};
 use std::process::ExitCode;
 use std::{env, io};
 use system::Line;
@@ -19,7 +19,8 @@ fn show(rt: &HostRuntime, report: &[Line]) -> io::Result<ExitCode> {
     for line in report {
         printer.put(*line)?;
     }
-    print!(rt; "{}", printer.text()?)?;
+    // at once: print! writes a thousand bytes at a time
+    rt.stdout().write_all(printer.text()?.as_bytes())?;
     if report.iter().any(|line| is_two(*line)) {
         return Ok(ExitCode::FAILURE);
     }

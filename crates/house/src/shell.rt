@@ -7,7 +7,9 @@ use crate::outside::Outside;
 use crate::perform::perform;
 use server::{Effect, Server};
 use std::alloc::Global;
-use stream::{Hearer, Outbox, Speaker, Stop};
+use std::io;
+use stream::{Hearer, Speaker, Stop};
+use wire::{Fault, Message};
 
 // A server, and the outside that does what it asks for.
 #[derive(Drop)]
@@ -53,7 +55,11 @@ impl<O: Outside> Hearer for Shell<O> {
 }
 
 impl Speaker for Shell<FileOutside> {
-    fn outbox(&mut self) -> &mut Outbox {
-        &mut self.outside.out
+    fn tell_cut(&mut self) -> Result<(), Stop> {
+        self.outside.out.put(Message::Fault(Fault::Malformed))
+    }
+
+    fn flush(&mut self) -> io::Result<()> {
+        self.outside.out.flush()
     }
 }

@@ -52,6 +52,12 @@ agree_later n now then t u l h a m = sym (kept-later now then (t a) l) ∙ ap (k
 pub agree_join : (n now : ℕ) (t u v : Table) → Agree n now t u → Agree n now u v → Agree n now t v
 agree_join n now t u v h k a l = h a l ∙ k a l
 
+pub agree_back : (n now : ℕ) (t u : Table) → Agree n now t u → Agree n now u t
+agree_back n now t u h a l = sym (h a l)
+
+pub agree_same : (n now : ℕ) (t u : Table) → ((a : ℕ) → t a ≡ u a) → Agree n now t u
+agree_same n now t u h a l = ap (kept_of now) (h a)
+
 -- leases at their addresses
 pub filed-set : (x : Lease) (t : Table) → Filed t → Filed (set x t)
 filed-set x t f a l e =

@@ -4,7 +4,7 @@
 use anyhow::{Context, bail};
 use journal::{Found, Journal, Record, Written, device_bytes, device_places};
 use lease::Lease;
-use std::alloc::Global;
+use std::alloc::{AllocError, Global};
 use std::fs;
 
 // The bytes of a place.
@@ -14,6 +14,22 @@ const ADDRESSES: usize = 16;
 
 // Of the leases in the files, those that outlive this tick are live.
 const CLOCK: u64 = 1000;
+
+// Two lower digits to a byte. The crate hex takes upper digits too, and says otherwise what is wrong.
+fn bytes_of(heap: Global, digits: &str) -> anyhow::Result<Vec<u8>> {
+    if !digits
+        .bytes()
+        .all(|byte| matches!(byte, b'0'..=b'9' | b'a'..=b'f'))
+    {
+        bail!("no hexadecimal digit");
+    }
+    if digits.len() % 2 == 1 {
+        bail!("half a byte");
+    }
+    // only memory can be wanting now
+    let bytes = hex::decode(heap, digits).map_err(|_| AllocError)?;
+    Ok(bytes)
+}
 
 fn put(image: &mut [u8], place: usize, bytes: &[u8]) -> anyhow::Result<()> {
     if place >= device_places() {
@@ -54,7 +70,7 @@ fn image_of(rt: &HostRuntime, heap: Global, file: &str) -> anyhow::Result<Vec<u8
         let place = place.parse::<usize>()?;
         match rest.split_once(' ') {
             Some((row, count)) => put_row(rt, &mut image, place, row, count.parse::<usize>()?)?,
-            None => put(&mut image, place, &hex::decode(heap, rest)?)?,
+            None => put(&mut image, place, &bytes_of(heap, rest)?)?,
         }
     }
     Ok(image)
@@ -102,7 +118,7 @@ fn try_image(rt: &HostRuntime, heap: Global, name: &str) -> anyhow::Result<()> {
     let file = format!(in heap; "{name}.txt")?;
     let image = image_of(rt, heap, &file)?;
     let mut table: Vec<Option<Lease>> = vec![in heap; None; ADDRESSES]?;
-    let mut journal = Journal::read(heap, &image)?;
+    let mut journal = Journal::open(Vec::with_capacity(heap, device_places())?, &image)?;
     let found = journal.recover(&mut table);
     show_found(rt, name, found, &table)?;
     let lease = Lease {

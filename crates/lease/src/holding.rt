@@ -24,8 +24,8 @@ pub struct Wait {
 // What a client has: an address in use, and a request that waits, each or neither.
 #[derive(Clone, Copy, PartialEq, Eq, Debug)]
 pub struct Holding {
-    pub(crate) using: Option<Use>,
-    pub(crate) waiting: Option<Wait>,
+    pub using: Option<Use>,
+    pub waiting: Option<Wait>,
 }
 
 impl Holding {

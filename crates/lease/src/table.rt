@@ -1,4 +1,4 @@
-ghost use Rattle.std.specs.Prelude.{◌≡◌, ℕ, List, Option, length, ◌<◌, ◌^◌, IfOk, if◌then◌else◌, cond, ◌&&◌, Some, None, Ok, vec_len, ◌≢◌, nat_lt};
+ghost use Rattle.std.specs.Prelude.{◌≡◌, ℕ, List, Option, length, ◌<◌, ◌^◌, IfOk, IfSome, if◌then◌else◌, cond, ◌&&◌, Some, None, Ok, vec_len, ◌≢◌, nat_lt};
 ghost use Rattle.lease.specs.declared.lease.Lease.{Lease};
 ghost use Rattle.lease.specs.Table.{table_of, empty, owned, vacant, free, written, at_home, loaded, OneEach, Placed};
 ghost use Rattle.lease.specs.Choosing.{lowest, choose as chosen, Chosen, leasing, entered};
@@ -70,7 +70,8 @@ impl Table {
 
     // What stands at an address: nothing outside the pool.
     pub fn lease(&self, address: u16) -> Option<Lease>
-        ensures { result ≡ table_of self.now address }
+        ensures value { result ≡ table_of self.now address }
+        ensures placed { IfSome result (λ lease. lease.address ≡ address) }
     {
         *self.leases.get(usize::from(address))?
     }

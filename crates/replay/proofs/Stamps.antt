@@ -19,17 +19,29 @@ use Rattle.system.specs.Watch.{Watch, any_in, granted, grant_of as grant_in, gra
 use Rattle.replay.specs.Parties.{event_of}
 use Rattle.replay.specs.Watch.{stamp_of_request, request_of, stamp_of_grant, grant_of, stamp_of_nonce, stamps_in, stamps_in_message, nonces_in}
 
+-- a stamp's address stands before its nonce
+turned : (a k n : Bool) → (a && (n && k)) ≡ (a && (k && n))
+turned false k n = refl
+turned true true true = refl
+turned true true false = refl
+turned true false true = refl
+turned true false false = refl
+
 pub request_member : (r : asked.Request) (ss : List Stamp) → member (stamp_of_request r) ss ≡ requested r (map request_of ss)
 unfolding requested
 request_member r [] = refl
-request_member r (s ∷ ss) = ap (λ (b : Bool). (eqb r.client s.client && (eqb r.nonce s.nonce && eqb r.preferred s.address)) || b) (request_member r ss)
+request_member r (s ∷ ss) =
+    ap (λ (b : Bool). b || member (stamp_of_request r) ss) (turned (eqb r.client s.client) (eqb r.nonce s.nonce) (eqb r.preferred s.address))
+    ∙ ap (λ (b : Bool). (eqb r.client s.client && (eqb r.nonce s.nonce && eqb r.preferred s.address)) || b) (request_member r ss)
 
 pub grant_member : (g : given.Grant) (ss : List Stamp) → member (stamp_of_grant g) ss ≡ granted g (map grant_of ss)
 unfolding granted
 grant_member g [] = refl
-grant_member g (s ∷ ss) = ap (λ (b : Bool). (eqb g.client s.client && (eqb g.nonce s.nonce && eqb g.address s.address)) || b) (grant_member g ss)
+grant_member g (s ∷ ss) =
+    ap (λ (b : Bool). b || member (stamp_of_grant g) ss) (turned (eqb g.client s.client) (eqb g.nonce s.nonce) (eqb g.address s.address))
+    ∙ ap (λ (b : Bool). (eqb g.client s.client && (eqb g.nonce s.nonce && eqb g.address s.address)) || b) (grant_member g ss)
 
-nonce-step : (a b k : Bool) (m n : ℕ) (ns : List ℕ) (q : Bool) → q ≡ elem m ns → k ≡ eqb m n → ((a && (k && b)) || q) ≡ elem m (cond (a && b) (n ∷ ns) ns)
+nonce-step : (a b k : Bool) (m n : ℕ) (ns : List ℕ) (q : Bool) → q ≡ elem m ns → k ≡ eqb m n → ((a && (b && k)) || q) ≡ elem m (cond (a && b) (n ∷ ns) ns)
 unfolding elem
 nonce-step true true true m n ns q e f = ap (λ (x : Bool). x || elem m ns) f
 nonce-step true true false m n ns q e f = e ∙ ap (λ (x : Bool). x || elem m ns) f

@@ -11,17 +11,17 @@ stamp c n a = record { client = c; nonce = n; address = a }
 
 pub same-is : (x y : Stamp) → same x y ≡ true → x ≡ y
 same-is x y e =
-    let p = and_parts (eqb x.client y.client) (eqb x.nonce y.nonce && eqb x.address y.address) e in
-    let q = and_parts (eqb x.nonce y.nonce) (eqb x.address y.address) p.1 in
+    let p = and_parts (eqb x.client y.client) (eqb x.address y.address && eqb x.nonce y.nonce) e in
+    let q = and_parts (eqb x.address y.address) (eqb x.nonce y.nonce) p.1 in
     let a : x.client ≡ y.client = eqb-true x.client y.client p.0 in
-    let b : x.nonce ≡ y.nonce = eqb-true x.nonce y.nonce q.0 in
-    let c : x.address ≡ y.address = eqb-true x.address y.address q.1 in
+    let b : x.nonce ≡ y.nonce = eqb-true x.nonce y.nonce q.1 in
+    let c : x.address ≡ y.address = eqb-true x.address y.address q.0 in
     ap (λ (q : ℕ). stamp q x.nonce x.address) a ∙ ap (λ (q : ℕ). stamp y.client q x.address) b ∙ ap (λ (q : ℕ). stamp y.client y.nonce q) c
 
 pub same_self : (x : Stamp) → same x x ≡ true
 same_self x =
-    and_from (eqb x.client x.client) (eqb x.nonce x.nonce && eqb x.address x.address) (eq-eqb x.client x.client refl)
-    (and_from (eqb x.nonce x.nonce) (eqb x.address x.address) (eq-eqb x.nonce x.nonce refl) (eq-eqb x.address x.address refl))
+    and_from (eqb x.client x.client) (eqb x.address x.address && eqb x.nonce x.nonce) (eq-eqb x.client x.client refl)
+    (and_from (eqb x.address x.address) (eqb x.nonce x.nonce) (eq-eqb x.address x.address refl) (eq-eqb x.nonce x.nonce refl))
 
 found : (x : Stamp) (xs : List Stamp) → member x xs ≡ true → In x xs
 found x [] e = absurd (both_ways false refl e)

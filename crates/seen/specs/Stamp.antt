@@ -6,7 +6,7 @@ use Rattle.std.specs.HashSet.{HashSet, contains}
 use Rattle.seen.specs.declared.stamp.Stamp.{Stamp}
 
 abbrev pub same : Stamp → Stamp → Bool
-same x y = x.client == y.client && (x.nonce == y.nonce && x.address == y.address)
+same x y = x.client == y.client && (x.address == y.address && x.nonce == y.nonce)
 
 abbrev pub member : Stamp → List Stamp → Bool
 member x xs = list_any (same x) xs

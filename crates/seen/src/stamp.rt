@@ -2,6 +2,7 @@
 #[derive(Clone, Copy, Debug, PartialEq, Eq, Hash)]
 pub struct Stamp {
     pub client: u32,
-    pub nonce: u64,
+    // before the nonce, so that a stamp takes 16 bytes: fields lie in the order of the source
     pub address: u16,
+    pub nonce: u64,
 }

@@ -7,12 +7,29 @@ mod stage;
 use anyhow::{Context, bail};
 use shown::Shown;
 use stage::Stage;
+use std::alloc::{AllocError, Global};
 use std::fs;
 
-// A message comes so many times, two digits to a byte wherever spaces stand; what the last does is printed.
+// Two lower digits to a byte, wherever spaces stand. The crate hex takes upper digits too, and says otherwise what is wrong.
+fn bytes_of(heap: Global, text: &str) -> anyhow::Result<Vec<u8>> {
+    let digits: String = text.split(' ').collect(heap)?;
+    if !digits
+        .bytes()
+        .all(|byte| matches!(byte, b'0'..=b'9' | b'a'..=b'f'))
+    {
+        bail!("no hexadecimal digit");
+    }
+    if digits.len() % 2 == 1 {
+        bail!("half a byte");
+    }
+    // only memory can be wanting now
+    let bytes = hex::decode(heap, digits).map_err(|_| AllocError)?;
+    Ok(bytes)
+}
+
+// A message comes so many times; what the last does is printed.
 fn hear(rt: &HostRuntime, stage: &mut Stage, times: u32, text: &str) -> anyhow::Result<()> {
-    let digits: String = text.split(' ').collect(rt.alloc())?;
-    let bytes = hex::decode(rt.alloc(), digits.as_str())?;
+    let bytes = bytes_of(rt.alloc(), text)?;
     for _ in 0..times {
         stage.hear(&bytes)?;
     }

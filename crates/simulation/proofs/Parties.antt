@@ -1,10 +1,11 @@
 -- What the list of clients and the list of messages stand for, after a read and after a write.
 -- Assumes nothing.
-use Rattle.std.proofs.Common.{◌≡◌, ℕ, zero, suc, ◌+◌, ◌^◌, ◌<◌, ◌≤◌, Bool, true, ◌||◌, eqb, List, [], ◌∷◌, ◌++◌, map, reverse, length, get_or, set, replicate, is_ok, Ok, Err, Result, sym, refl, ap, ◌∙◌, subst, arith, below_more}
+use Rattle.std.proofs.Common.{◌≡◌, ℕ, zero, suc, ◌+◌, ◌-◌, ◌^◌, ◌<◌, ◌≤◌, Bool, true, ◌||◌, eqb, List, [], ◌∷◌, ◌++◌, map, reverse, length, get_or, set, replicate, is_ok, Some, None, Option, Ok, Err, Result, sym, refl, ap, ◌∙◌, subst, arith, below_more}
 use mathlib.Core.Path.{fun_ext}
 use Rattle.std.specs.List.{list_any, slice_get}
 use Rattle.std.specs.Option.{option_map}
-use Rattle.std.proofs.lemmas.List.{get_or-map, get_or_past, map-set, map-append, length-map, reverse-append}
+use Rattle.std.proofs.lemmas.List.{get_or-map, get_or_past, get_or-reverse, map-set, map-append, length-map, length-reverse, reverse-append}
+use Rattle.std.proofs.lemmas.Option.{slice_get-get_or, slice_get_past}
 use Rattle.std.proofs.lemmas.List.Sorted.{IsPermutation-reverse, list_any-IsPermutation}
 use Rattle.std.proofs.lemmas.Bool.{both_ways, cond-true, cond-false, eq-eqb, ne_eqb}
 use Rattle.lease.specs.declared.fault.Fault.{Fault}
@@ -72,6 +73,15 @@ newest ms i = sent-in (reverse ms) i ∙ ap (λ (l : List world.Message). world.
   sent-in [] k = refl
   sent-in (m ∷ l) zero = refl
   sent-in (m ∷ l) (suc k) = sent-in l k
+
+-- the message after which i were sent, by its place in the list
+pub message-at : (ms : List Sent) (i : ℕ) (d : Sent) → i < length ms → Some (message_of (get_or ms (length ms - 1 - i) d)) ≡ world.sent i (messages_of ms)
+message-at ms i d h =
+    ap (λ (o : Option Sent). option_map message_of o) (sym (slice_get-get_or (reverse ms) i d (omega (arith, length-reverse ms)) ∙ ap (λ (m : Sent). Some m) (get_or-reverse ms i d h)))
+    ∙ newest ms i
+
+pub message-none : (ms : List Sent) (i : ℕ) → length ms ≤ i → None ≡ world.sent i (messages_of ms)
+message-none ms i h = ap (λ (o : Option Sent). option_map message_of o) (sym (slice_get_past (reverse ms) i (omega (arith, length-reverse ms)))) ∙ newest ms i
 
 -- a nonce is drawn where some request has it
 any_map : {A B : Type 0} (f : A → B) (test : B → Bool) (xs : List A) → list_any (λ x. test (f x)) xs ≡ list_any test (map f xs)

@@ -9,7 +9,11 @@ use crate::event::Sent;
 pub(crate) fn message(sent: &[Sent], which: usize) -> Option<Sent>
     ensures { option_map message_of result ≡ sent_at which (messages_of sent.now) }
 {
-    sent.iter().rev().nth(which).copied()
+    // by place, since nth goes over all that were sent since
+    if which >= sent.len() {
+        return None;
+    }
+    Some(sent[sent.len() - 1 - which])
 }
 
 // It is a request with this nonce.

@@ -20,6 +20,7 @@ use breaking::break_each;
 use printing::Printer;
 use run::run;
 use show::show;
+use std::io::Write;
 use std::process::ExitCode;
 use std::{env, io};
 use system::Line;
@@ -42,7 +43,7 @@ fn show_refused(rt: &HostRuntime, seed: u64, number: u64, line: Line) -> io::Res
     print!(rt; "seed {seed}, run {number}: ")?;
     let mut printer = Printer::new(rt.alloc());
     printer.put(line)?;
-    print!(rt; "{}", printer.text()?)
+    rt.stdout().write_all(printer.text()?.as_bytes())
 }
 
 // Runs that keep every premise, and whether each is reported to.

@@ -5,20 +5,21 @@ ghost use Rattle.stream.specs.declared.speaker.Halt.TheVariants.{Stopped};
 
 use crate::hearer::{Hearer, Stop};
 use crate::inbox::Inbox;
-use crate::outbox::Outbox;
 use std::alloc::AllocError;
 use std::error::Error;
 use std::io::{ErrorKind, Read};
 use std::{fmt, io};
-use wire::{Fault, Message};
 
 // So many bytes are read at once; a pipe holds as many.
 const CHUNK: usize = 65_536;
 
-// A hearer that puts messages out.
+// A hearer that puts messages out, wherever to.
 pub trait Speaker: Hearer {
-    // What it put out and is not yet written.
-    fn outbox(&mut self) -> &mut Outbox;
+    // The stream ended within a message.
+    fn tell_cut(&mut self) -> Result<(), Stop>;
+
+    // Writes what was put out.
+    fn flush(&mut self) -> io::Result<()>;
 }
 
 // Why a program ended before its input did.
@@ -85,11 +86,11 @@ pub fn serve<S: Speaker>(rt: &HostRuntime, speaker: &mut S) -> Result<(), Halt> 
         }
         let heard = inbox.feed(&chunk[..count], speaker);
         // what was answered before a stop is saved, and goes out
-        speaker.outbox().flush().map_err(Halt::Output)?;
+        speaker.flush().map_err(Halt::Output)?;
         heard?;
     }
     if inbox.is_cut() {
-        speaker.outbox().put(Message::Fault(Fault::Malformed))?;
+        speaker.tell_cut()?;
     }
-    speaker.outbox().flush().map_err(Halt::Output)
+    speaker.flush().map_err(Halt::Output)
 }

@@ -19,5 +19,6 @@ pub mod Saying
 pub mod Sentences
 pub mod Spelling
 pub mod Splitting
+pub mod Telling
 pub mod Whole
 pub mod Writings

@@ -80,7 +80,8 @@ fn read_entry(form: Form, line: &[u8]) -> Result<Line, Mistake>
 pub fn read_line(form: Form, line: &[u8]) -> Result<Option<Line>, Mistake>
     ensures { result ≡ line_of form (words line.now) }
 {
-    if word_at(line, 0).is_none() {
+    // an empty line has no word to be looked for
+    if line.is_empty() || word_at(line, 0).is_none() {
         return Ok(None);
     }
     read_entry(form, line).map(Some)

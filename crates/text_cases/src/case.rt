@@ -1,4 +1,4 @@
-use anyhow::{Result, anyhow};
+use anyhow::{Result, anyhow, bail};
 use std::alloc::{AllocError, Global};
 use text::Form;
 
@@ -29,9 +29,19 @@ fn text_of(heap: Global, text: &str) -> Result<Vec<u8>, AllocError> {
         .collect(heap)
 }
 
-// Two digits to a byte; a space counts for nothing.
+// Two lower digits to a byte; a space counts for nothing. The crate hex takes upper digits too, and says otherwise what is wrong.
 fn bytes_of(heap: Global, text: &str) -> Result<Vec<u8>> {
-    let digits: Vec<u8> = text.bytes().filter(|byte| *byte != b' ').collect(heap)?;
-    let bytes = hex::decode(heap, digits.as_slice())?;
+    let digits: String = text.split(' ').collect(heap)?;
+    if !digits
+        .bytes()
+        .all(|byte| matches!(byte, b'0'..=b'9' | b'a'..=b'f'))
+    {
+        bail!("no hexadecimal digit");
+    }
+    if digits.len() % 2 == 1 {
+        bail!("half a byte");
+    }
+    // only memory can be wanting now
+    let bytes = hex::decode(heap, digits).map_err(|_| AllocError)?;
     Ok(bytes)
 }

@@ -1,4 +1,5 @@
 ghost use Rattle.std.specs.Prelude.{◌≡◌, length, MatchResult, slice_index};
+ghost use Rattle.lease.specs.Fault.{fault_of};
 ghost use Rattle.wire.specs.Decode.{decoded, judged, pool, received as receives};
 ghost use Rattle.wire.specs.Laws.{Taken};
 ghost use Rattle.wire.specs.Kind.{kind_of, table};
@@ -10,6 +11,13 @@ use crate::message::Message;
 use crate::numbers::array_at;
 use crate::reader::Reader;
 use lease::{Fault, Grant, Request, Settings};
+
+// The fault that this number stands for.
+pub fn fault_numbered(number: u8) -> Option<Fault>
+    ensures { result ≡ fault_of number }
+{
+    Fault::try_from(number).ok()
+}
 
 // Each field stands at the protocol's own number, as in the table of specs/Read.
 fn fields(kind: Kind, bytes: &[u8]) -> Option<Message>
@@ -48,7 +56,7 @@ fn fields(kind: Kind, bytes: &[u8]) -> Option<Message>
             until: u64::from_be_bytes(array_at(bytes, 3)),
         },
         Kind::NoAddress => Message::NoAddress,
-        Kind::Fault => Message::Fault(Fault::try_from(bytes[1]).ok()?),
+        Kind::Fault => Message::Fault(fault_numbered(bytes[1])?),
     };
     Some(message)
 }

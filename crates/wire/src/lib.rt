@@ -9,7 +9,7 @@ mod numbers;
 mod reader;
 mod stream;
 
-pub use decode::read;
+pub use decode::{fault_numbered, read};
 pub use encode::most_bytes;
 pub use lease::Fault;
 pub use message::Message;

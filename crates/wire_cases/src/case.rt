@@ -1,6 +1,6 @@
-use anyhow::{Context, anyhow};
+use anyhow::{Context, anyhow, bail};
 use lease::Settings;
-use std::alloc::Global;
+use std::alloc::{AllocError, Global};
 use std::str::FromStr;
 use wire::Reader;
 
@@ -34,17 +34,16 @@ pub struct Case {
 }
 
 impl Case {
-    // Two digits to a byte, wherever spaces stand. It is no `FromStr`, to which no allocator is lent.
+    // It is no `FromStr`, to which no allocator is lent.
     pub fn of(heap: Global, line: &str) -> anyhow::Result<Case> {
         let (form, rest) = line
             .split_once(' ')
             .context("a case has a reader and settings")?;
         let (settings, digits) = rest.split_once(' ').unwrap_or((rest, ""));
-        let digits: String = digits.split(' ').collect(heap)?;
         Ok(Case {
             form: form.parse()?,
             settings: settings_of(settings)?,
-            bytes: hex::decode(heap, digits)?,
+            bytes: bytes_of(heap, digits)?,
         })
     }
 }
@@ -59,4 +58,21 @@ fn settings_of(text: &str) -> anyhow::Result<Option<Settings>> {
     Settings::new(addresses.parse()?, term.parse()?, skew.parse()?)
         .map(Some)
         .map_err(|_| anyhow!("settings out of range"))
+}
+
+// Two lower digits to a byte, wherever spaces stand. The crate hex takes upper digits too, and says otherwise what is wrong.
+fn bytes_of(heap: Global, text: &str) -> anyhow::Result<Vec<u8>> {
+    let digits: String = text.split(' ').collect(heap)?;
+    if !digits
+        .bytes()
+        .all(|byte| matches!(byte, b'0'..=b'9' | b'a'..=b'f'))
+    {
+        bail!("no hexadecimal digit");
+    }
+    if digits.len() % 2 == 1 {
+        bail!("half a byte");
+    }
+    // only memory can be wanting now
+    let bytes = hex::decode(heap, digits).map_err(|_| AllocError)?;
+    Ok(bytes)
 }
