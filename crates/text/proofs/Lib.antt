@@ -1,4 +1,5 @@
 pub mod Appending
+pub mod Blank
 pub mod Copies
 pub mod Cutting
 pub mod Digits

@@ -11,7 +11,7 @@ use crate::field::Field;
 use crate::form::{Addressee, Form};
 use crate::hex::read_hex;
 use crate::kind::Verb;
-use crate::piece::word_at;
+use crate::piece::{is_blank, word_at};
 use crate::speech::{Rest, Speech, figure};
 use std::alloc::AllocError;
 use wire::Message;
@@ -80,8 +80,8 @@ fn read_entry(form: Form, line: &[u8]) -> Result<Line, Mistake>
 pub fn read_line(form: Form, line: &[u8]) -> Result<Option<Line>, Mistake>
     ensures { result ≡ line_of form (words line.now) }
 {
-    // an empty line has no word to be looked for
-    if line.is_empty() || word_at(line, 0).is_none() {
+    // most blank lines are seen to be blank without looking for words
+    if is_blank(line) || word_at(line, 0).is_none() {
         return Ok(None);
     }
     read_entry(form, line).map(Some)
