@@ -76,7 +76,8 @@ impl Table {
         *self.leases.get(usize::from(address))?
     }
 
-    // The address of the client's live lease.
+    // The address of the client's live lease. Not inlined: within a long function its loop has no register left for the client.
+    #[inline(never)]
     fn own(&self, clock: Clock, client: u32) -> Option<u16>
         ensures { result ≡ lowest (λ a. owned clock.ticks client (table_of self.now a)) 0 (length self.now) }
     {

@@ -97,15 +97,6 @@ pub(crate) fn differ(one: Option<Settings>, other: Option<Settings>) -> bool
     one.zip(other).is_some_and(|(one, other)| one != other)
 }
 
-// One moment more, where the client shows a clock.
-fn note_clock(known: Option<Lead>, clock: Option<Clock>, server: Clock) -> Option<Lead>
-    ensures { option_map lead_of result ≡ noted_by (option_map (λ c. c.ticks) clock) server.ticks (option_map lead_of known) }
-{
-    clock
-        .map(|clock| widen(known, lead_of(clock, server)))
-        .or(known)
-}
-
 // The moment is noted for each client that shows a clock.
 fn note_clocks(leads: &mut [Option<Lead>], clients: &[Client], server: Clock)
     requires { length leads.old ≡ length clients.now }
@@ -113,7 +104,11 @@ fn note_clocks(leads: &mut [Option<Lead>], clients: &[Client], server: Clock)
 {
     // by place: of what is written through iter_mut nothing is known afterwards
     for (place, client) in clients.iter().enumerate() {
-        leads[place] = note_clock(leads[place], shown_clock(client), server);
+        // most clients of a run show none: their places aren't written
+        let Some(clock) = shown_clock(client) else {
+            continue;
+        };
+        leads[place] = Some(widen(leads[place], lead_of(clock, server)));
     }
 }
 
