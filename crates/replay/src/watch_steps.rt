@@ -104,7 +104,7 @@ fn note_clocks(leads: &mut [Option<Lead>], clients: &[Client], server: Clock)
 {
     // by place: of what is written through iter_mut nothing is known afterwards
     for (place, client) in clients.iter().enumerate() {
-        // most clients of a run show none: their places aren't written
+        // the place of a client that shows none isn't written: in a long run that is felt
         let Some(clock) = shown_clock(client) else {
             continue;
         };
